@@ -1,0 +1,2 @@
+-- What the contracts of `key_example` cite.
+pub mod Printed

@@ -1,0 +1,123 @@
+-- The key example of the outline, and its starred results that speak of requests, results and cells, as one list of claims.
+-- Assumes nothing.
+use Prim.Native.Nat.{ℕ, _-_}
+use mathlib.Core.Bool.{Bool, true, false, _&&_}
+use mathlib.Core.List.{List, [], _∷_, _++_}
+use lib.Dec.{eqb}
+use lib.ListN.{length, set, replicate}
+use Rattle.rights.specs.Sets.{converted}
+use Rattle.rights.specs.declared.ThingType.{ThingType}
+use Rattle.model.specs.Check.{all, isSome}
+use Rattle.model.specs.Request.{Request, View, run, answers}
+use Rattle.model.specs.Papers.{State, papers}
+use Rattle.model.specs.Seats.{Matrix, seats, standsFor, noType}
+use Rattle.model.specs.declared.Test.{Test}
+use Rattle.model.specs.declared.Code.{Code}
+use Rattle.model.specs.declared.Code.the-variants.{Enter, Destroy}
+use Rattle.model.specs.declared.Operation.{Operation}
+use Rattle.model.specs.declared.Command.{Command}
+use Rattle.model.specs.declared.Scheme.{Scheme}
+
+-- ---- lists as the arrays hold them
+abbrev pub type : ℕ → ThingType
+type t = record { 0 = t }
+
+abbrev pub test : Bool → ℕ → ℕ → ℕ → Test
+test present r i j = record { present = present; right = record { 0 = r }; row = record { 0 = i }; column = record { 0 = j } }
+
+abbrev pub operation : Code → ℕ → ℕ → ℕ → Operation
+operation code r i j = record { code = code; right = record { 0 = r }; row = record { 0 = i }; column = record { 0 = j } }
+
+abbrev pub command : List ThingType → List Test → List Operation → Command
+command ks ts os = record {
+  parameters = record { count = length ks; types = ks ++ replicate (8 - length ks) noType };
+  tests = record { count = length ts; list = ts ++ replicate (16 - length ts) (test false 0 0 0) };
+  operations = record { count = length os; list = os ++ replicate (32 - length os) (operation Enter 0 0 0) };
+}
+
+abbrev pub scheme : ℕ → ℕ → ℕ → List Command → Scheme
+scheme n m subjects cs = record {
+  head = record { rights = n; types = m; subjects = record { 0 = subjects }; count = length cs };
+  commands = cs ++ replicate (32 - length cs) (command [] [] []);
+}
+
+-- ---- rights: 0 own, 1 sign, 2 retired, 3 loaded; types: 0 manager, 1 key, 2 robot
+
+-- retire(M manager, K key): if own in [M, K], enter retired in [K, K]
+abbrev pub retire : Command
+retire = command (type 0 ∷ type 1 ∷ []) (test true 0 0 1 ∷ []) (operation Enter 2 1 1 ∷ [])
+
+-- load(K key, R robot): if sign in [K, R] and retired absent from [K, K], enter loaded in [K, R]
+abbrev pub load : Command
+load = command (type 1 ∷ type 2 ∷ []) (test true 1 0 1 ∷ test false 2 0 0 ∷ []) (operation Enter 3 0 1 ∷ [])
+
+unfoldable pub keyScheme : Scheme
+keyScheme = scheme 4 3 3 (retire ∷ load ∷ [])
+
+-- things: 5 manager, 9 key, 12 robot; cells: [5, 9] = 1, [9, 12] = 2
+unfoldable pub keyMatrix : Matrix
+keyMatrix = record {
+  things = record { ids = 5 ∷ 9 ∷ 12 ∷ replicate 45 0; types = type 0 ∷ type 1 ∷ type 2 ∷ replicate 45 noType };
+  cells = set (set (replicate 2304 0) 1 1) 50 2;
+}
+
+-- a command that destroys two key parameters
+unfoldable pub twoDestroys : Scheme
+twoDestroys = scheme 4 3 3 (command (type 1 ∷ type 1 ∷ []) [] (operation Destroy 0 0 0 ∷ operation Destroy 0 1 0 ∷ []) ∷ [])
+
+-- ---- a claim: these requests, from the key example's matrix, are answered so, and afterwards these cells hold so much and these things exist
+pub record Cell : Type 0 where
+  pub row : ℕ
+  pub column : ℕ
+  pub holds : ℕ
+
+pub record Claim : Type 0 where
+  pub of : Scheme
+  pub requests : List Request
+  pub numbers : List ℕ
+  pub cells : List Cell
+  pub things : List ℕ
+
+abbrev pub ask : ℕ → List ℕ → Request
+ask c ids = record { command = c; ids = ids }
+
+abbrev pub is : ℕ → ℕ → ℕ → Cell
+is x y v = record { row = x; column = y; holds = v }
+
+-- the seven starred requests of the key scheme, one after the other
+unfoldable pub seven : List Request
+seven =
+    ask 1 (9 ∷ 12 ∷ [])
+    ∷ ask 0 (5 ∷ 9 ∷ [])
+    ∷ ask 1 (9 ∷ 12 ∷ [])
+    ∷ ask 0 (9 ∷ 9 ∷ [])
+    ∷ ask 0 (5 ∷ 8 ∷ [])
+    ∷ ask 0 (5 ∷ [])
+    ∷ ask 2 []
+    ∷ []
+
+unfoldable pub sameNumbers : List ℕ → List ℕ → Bool
+sameNumbers [] [] = true
+sameNumbers [] (y ∷ ys) = false
+sameNumbers (x ∷ xs) [] = false
+sameNumbers (x ∷ xs) (y ∷ ys) = eqb x y && sameNumbers xs ys
+
+-- is the claim true, if matrices are of this form?
+module _ {M : Type 0} (view : View M) where
+  unfoldable pub cellIs : M → Cell → Bool
+  cellIs m c = eqb (view .cell m (c .row) (c .column)) (c .holds)
+
+  unfoldable pub isTrue : M → Claim → Bool
+  isTrue m c =
+      sameNumbers (answers view (c .of) m (c .requests)) (c .numbers)
+      && all (cellIs (run view (c .of) m (c .requests))) (c .cells)
+      && all (λ x. isSome (view .thing (run view (c .of) m (c .requests)) x)) (c .things)
+
+unfoldable pub starred : List Claim
+starred =
+    record { of = keyScheme; requests = ask 1 (9 ∷ 12 ∷ []) ∷ []; numbers = 0 ∷ []; cells = is 9 12 10 ∷ []; things = [] }
+    ∷ record { of = keyScheme; requests = ask 1 (9 ∷ 12 ∷ []) ∷ ask 0 (5 ∷ 9 ∷ []) ∷ []; numbers = 0 ∷ 0 ∷ []; cells = is 9 9 4 ∷ []; things = [] }
+    ∷ record { of = keyScheme; requests = ask 1 (9 ∷ 12 ∷ []) ∷ ask 0 (5 ∷ 9 ∷ []) ∷ ask 1 (9 ∷ 12 ∷ []) ∷ []; numbers = 0 ∷ 0 ∷ 14 ∷ []; cells = []; things = [] }
+    ∷ record { of = keyScheme; requests = ask 0 (9 ∷ 9 ∷ []) ∷ ask 0 (5 ∷ 8 ∷ []) ∷ ask 0 (5 ∷ []) ∷ ask 2 [] ∷ []; numbers = 13 ∷ 12 ∷ 11 ∷ 10 ∷ []; cells = is 5 9 1 ∷ is 9 12 2 ∷ []; things = [] }
+    ∷ record { of = twoDestroys; requests = ask 0 (9 ∷ 9 ∷ []) ∷ []; numbers = 17 ∷ []; cells = is 9 12 2 ∷ []; things = 9 ∷ [] }
+    ∷ []

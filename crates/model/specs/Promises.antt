@@ -1,0 +1,62 @@
+-- What is promised of the model, each promise as one statement; the proofs stand in proofs/, under the same names.
+-- Assumes nothing.
+use Prim.Native.Nat.{ℕ, _≤_, _<_}
+use mathlib.Core.Path.{_≡_}
+use mathlib.Core.Logic.{_≢_}
+use mathlib.Core.Option.{none, some}
+use mathlib.Core.List.{List, _∷_, _++_}
+use lib.Dec.{T}
+use lib.ListN.{length, getD}
+use Rattle.rights.specs.declared.ThingType.{ThingType}
+use Rattle.model.specs.Check.{all}
+use Rattle.model.specs.Scheme.{isNew}
+use Rattle.model.specs.Request.{Request, View, Outcome, done, refused, number, after, placeFault, placesFault, operate, operateAll, step, run, answers}
+use Rattle.model.specs.Papers.{State, papers, howMany}
+use Rattle.model.specs.Seats.{Matrix, seats, standsFor, noType}
+use Rattle.model.specs.Accepted.{acceptedScheme, acceptedMatrix}
+use Rattle.model.specs.KeyExample.{starred, isTrue, keyMatrix}
+use Rattle.model.specs.declared.Operation.{Operation}
+use Rattle.model.specs.declared.Scheme.{Scheme}
+
+-- an outcome in memory as an outcome of the papers
+unfoldable pub paperOutcome : Outcome Matrix → Outcome State
+paperOutcome (done m) = done (standsFor m)
+paperOutcome (refused k) = refused k
+
+-- Memory and papers agree: a request in memory gives the papers' answer, and what the memory then stands for is the papers' matrix afterwards.
+abbrev pub Joined : Type 0
+Joined = (s : Scheme) (m : Matrix) (q : Request) → T (acceptedScheme s) → T (acceptedMatrix (s .head) m) →
+    paperOutcome (step seats s m q) ≡ step papers s (standsFor m) q
+
+-- the same for a list of requests: all the answers, and the matrix after the last (so, taken at each part of a list, after each)
+pub record RunJoined : Type 0 where
+  pub sameAnswers : (s : Scheme) (m : Matrix) (qs : List Request) → T (acceptedScheme s) → T (acceptedMatrix (s .head) m) →
+      answers seats s m qs ≡ answers papers s (standsFor m) qs
+  pub sameMatrix : (s : Scheme) (m : Matrix) (qs : List Request) → T (acceptedScheme s) → T (acceptedMatrix (s .head) m) →
+      standsFor (run seats s m qs) ≡ run papers s (standsFor m) qs
+
+-- A request leaves an accepted matrix accepted, whether it is carried out or refused, creates and destroys included.
+abbrev pub Kept : Type 0
+Kept = (s : Scheme) (m : Matrix) (q : Request) → T (acceptedScheme s) → T (acceptedMatrix (s .head) m) → T (acceptedMatrix (s .head) (after m (step seats s m q)))
+
+-- The number of things never exceeds 48: in no accepted memory, and in no papers' matrix after a request if not before.
+pub record AtMost48 : Type 0 where
+  pub inMemory : (s : Scheme) (m : Matrix) → T (acceptedMatrix (s .head) m) → howMany (standsFor m) ≤ 48
+  pub kept : (s : Scheme) (m : State) (q : Request) → howMany m ≤ 48 → howMany (after m (step papers s m q)) ≤ 48
+
+-- The starred examples that speak of requests, results and cells hold, in memory and in the papers' view.
+pub record Starred : Type 0 where
+  pub inMemory : T (all (isTrue seats keyMatrix) starred)
+  pub onPaper : T (all (isTrue papers (standsFor keyMatrix)) starred)
+
+-- What the outline says of the order of faults and of half-done commands, in any form of a matrix.
+pub record InOrder {M : Type 0} (view : View M) : Type 0 where
+  -- The first place at fault is the answer: a fault at a place counts where every place before it passes.
+  pub firstPlace : (m : M) (os : List Operation) (ts : List ThingType) (ids : List ℕ) (i k : ℕ) → length ids ≡ length ts → i < length ts →
+      ((j : ℕ) → j < i → placeFault view m (isNew os j) (getD ts j noType) (getD ids j 0) ≡ none) →
+      placeFault view m (isNew os i) (getD ts i noType) (getD ids i 0) ≡ some k → placesFault view m os 0 ts ids ≡ some k
+  -- All or nothing: an operation that refuses, after others were carried out, refuses the whole with its number.
+  pub wholeRefused : (ts : List ThingType) (ids : List ℕ) (before : List Operation) (o : Operation) (later : List Operation) (m next : M) (k : ℕ) →
+      operateAll view ts ids before m ≡ done next → operate view ts ids o next ≡ refused k → operateAll view ts ids (before ++ o ∷ later) m ≡ refused k
+  -- A refused request has no effect at all.
+  pub noEffect : (m : M) (o : Outcome M) → number o ≢ 0 → after m o ≡ m

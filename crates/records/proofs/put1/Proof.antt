@@ -1,0 +1,22 @@
+-- `records::put1` meets its contract: past the end `set` changes nothing either.
+-- Assumes nothing.
+use mathlib.Core.Path.{sym}
+use lib.Seq.{set-out}
+use borrow.Author.Needs.{needs}
+use Rattle.records.proofs.put1.Statement.{statement}
+use Rattle.records.proofs.put1.Tie as tie
+
+slice-write-out : tie.Need-slice-write-out
+slice-write-out c = search needs
+
+same-length : tie.Need-same-length
+same-length c = search needs
+
+returns : tie.Need-returns
+returns c = search needs
+
+returns-2 : tie.Need-returns-2
+returns-2 c = sym (set-out _ _ _ (c .if1 .left))
+
+pub put1-spec : {M : Type 1} → statement M
+put1-spec = tie.close (tie.spec slice-write-out same-length returns returns-2)

@@ -1,0 +1,2 @@
+-- What the contracts of `rights` cite.
+pub mod Sets
