@@ -39,13 +39,13 @@ pub all-full : (n : ℕ) → 64 ≤ n → 2 ^ 64 - 1 ≡ allRights n
 unfolding allRights
 all-full n h = rw (min-eq-right h)
 
-pub within-word : (m set : ℕ) → m < 16 → ltb set ((1 * 2 ^ m) % 2 ^ 16) ≡ within m set
+pub within-word : (w m set : ℕ) → m < w → ltb set ((1 * 2 ^ m) % 2 ^ w) ≡ within m set
 unfolding within
-within-word m set h = rw (shifted m 16 h)
+within-word w m set h = rw (shifted m w h)
 
-pub within-full : (m set : ℕ) → 16 ≤ m → set < 2 ^ 16 → true ≡ within m set
+pub within-full : (w m set : ℕ) → w ≤ m → set < 2 ^ w → true ≡ within m set
 unfolding within
-within-full m set h l = sym (lt-ltb set (2 ^ m) (lt-of-lt-of-le l (pow-mono h)))
+within-full w m set h l = sym (lt-ltb set (2 ^ m) (lt-of-lt-of-le l (pow-mono h)))
 
 -- ---- what `enter`, `delete` and `complement` compute from the set that a call gave them
 

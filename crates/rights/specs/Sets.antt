@@ -34,7 +34,7 @@ countTo (suc k) set = countTo k set + cond (has set k) 1 0
 unfoldable pub countRights : ℕ → ℕ
 countRights set = countTo 64 set
 
--- no type of number m or above is in the set
+-- nothing of number m or above is in the set
 unfoldable pub within : ℕ → ℕ → Bool
 within m set = ltb set (2 ^ m)
 

@@ -101,6 +101,17 @@ impl RightSet {
         RightSet((self.0 | every.0) ^ self.0)
     }
 
+    // Whether no right of number n or above is in it.
+    pub fn within(self, n: u8) -> bool
+        ensures { λ b. ⌜ b ≡ within n (self .0) ⌝ }
+    {
+        if n < Right::LIMIT {
+            self.0 < (1u64 << n)
+        } else {
+            true
+        }
+    }
+
     // How many rights it holds.
     pub fn count(self) -> u32
         ensures { λ c. ⌜ c ≡ countRights (self .0) ⌝ }

@@ -7,10 +7,10 @@ shl-result : tie.Need-shl-result
 shl-result c = search needs
 
 returns : tie.Need-returns
-returns c = within-word _ _ (search needs)
+returns c = within-word 16 _ _ (search needs)
 
 returns-2 : tie.Need-returns-2
-returns-2 c = within-full _ _ (search needs) (search needs)
+returns-2 c = within-full 16 _ _ (search needs) (search needs)
 
 pub within-spec : {M : Type 1} → statement M
 within-spec = tie.close (tie.spec shl-result returns returns-2)

@@ -1,0 +1,3 @@
+-- The laws of a request's definitions, and its round trips.
+pub mod Laws
+pub mod RoundTrips

@@ -1,0 +1,57 @@
+-- Reading a request's record at a position of a list; the end of the list is its own answer.
+-- Assumes nothing.
+use Prim.Native.Nat.{ℕ, _-_}
+use mathlib.Core.Bool.{cond}
+use mathlib.Core.List.{List, [], _++_}
+use lib.Dec.{eqb}
+use lib.ListN.{length, take, replicate}
+use Rattle.records.specs.Reading.{Read, got, fault, Body, _>>=_, _>>_, done, steps, byte, field, number}
+use Rattle.records.specs.Front.{Refusal, inRecord}
+use Rattle.request_bytes.specs.declared.Request.{Request}
+use Rattle.request_bytes.specs.declared.RequestReading.{RequestReading}
+use Rattle.request_bytes.specs.declared.RequestReading.the-variants.{Done, End, Refused}
+use Rattle.request_bytes.specs.declared.RequestAnswer.{RequestAnswer}
+use Rattle.request_bytes.specs.declared.Walk.the-variants as walk
+use Rattle.request_bytes.specs.declared.IdsRead.{IdsRead}
+use Rattle.records.specs.declared.RecordAnswer.{RecordAnswer}
+use Rattle.records.specs.declared.RecordAnswer.the-variants as record-answer
+
+-- the ids that the array holds, and a request with these ids, with zeros behind them
+abbrev pub idsOf : Request → List ℕ
+idsOf q = take (q .count) (q .ids)
+
+unfoldable pub requestOf : ℕ → List ℕ → Request
+requestOf command ids = record { command = command; count = length ids; ids = ids ++ replicate (8 - length ids) 0 }
+
+-- command (1), ids (1), 2 bytes an id; neither the command number nor the ids are checked here
+unfoldable pub request : Body Request
+request = do
+  command ← byte
+  count ← field 0 9 4
+  ids ← steps (λ (u : Unit {0}). number 2) (λ u x. u) count tt
+  done (requestOf command ids)
+
+-- kind 6 is bit 6 of the kinds that may stand there
+unfoldable pub requestAt : List ℕ → ℕ → Read ℕ Refusal Request
+requestAt s = inRecord s 64 (λ kind. request)
+
+unfoldable pub noRequest : Request
+noRequest = requestOf 0 []
+
+abbrev pub asRequest : Read ℕ Refusal Request → RequestAnswer
+asRequest (got q next) = record { answer = Done next; request = q }
+asRequest (fault f) = record { answer = Refused (f .number) (f .at); request = noRequest }
+
+unfoldable pub readRequest : List ℕ → ℕ → RequestAnswer
+readRequest s at = cond (eqb at (length s)) (record { answer = End; request = noRequest }) (asRequest (requestAt s at))
+
+-- ---- the answers of the inner functions
+
+abbrev pub asIds : Read (List ℕ) ℕ (List ℕ) → IdsRead
+asIds (got ids rest) = record { answer = walk.Whole; ids = ids ++ replicate (8 - length ids) 0 }
+asIds (fault k) = record { answer = walk.Fault k; ids = replicate 8 0 }
+
+-- a record's refusal as it is passed up; it is asked of no record
+abbrev pub refusalOf : RecordAnswer → Read ℕ Refusal Request
+refusalOf (record-answer.Record kind start len) = fault (record { number = 0; at = 0 })
+refusalOf (record-answer.Refused k q) = fault (record { number = k; at = q })
