@@ -158,7 +158,7 @@ pub record Formed (s : Head) (c : Command) : Type 0 where
   pub tests : Each (Tested s (parametersOf c) (operationsOf c)) (testsOf c)
   pub body : Body s (parametersOf c) 0 (operationsOf c)
 
-formed-command : (s : Head) (c : Command) → T (acceptedCommand s c) → Formed s c
+pub formed-command : (s : Head) (c : Command) → T (acceptedCommand s c) → Formed s c
 unfolding acceptedCommand commandFault typeAt typeRange
 formed-command s c a =
     let t : T (passes (commandFault s c)) = search and-left in

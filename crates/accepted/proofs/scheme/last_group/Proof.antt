@@ -1,0 +1,33 @@
+-- Of the first n operations the last stands first in `before`.
+use mathlib.Core.Path.{_≡_, sym, ap, _∙_}
+use native.Mathlib.Omega.{arith}
+use borrow.Author.Needs.{needs}
+use lib.ListN.{length}
+use Rattle.model.specs.Accepted.{lastGroup}
+use Rattle.accepted.proofs.Walks.{long, last-first}
+use Rattle.accepted.proofs.scheme.last_group.Statement.{statement}
+use Rattle.accepted.proofs.scheme.last_group.Tie as tie
+
+returns : tie.Need-returns
+returns c = search needs
+
+sub-one : tie.Need-sub-one
+sub-one c = search needs
+
+mul-one : tie.Need-mul-one
+mul-one c = search needs
+
+element-copy-out-one : tie.Need-element-copy-out-one
+element-copy-out-one c = search needs
+
+group-of-requires : tie.Need-group-of-requires
+group-of-requires c κs = search needs
+
+returns-2 : tie.Need-returns-2
+returns-2 c =
+    let e : length (c .before .before .before .args .t1 .list) ≡ 32 = search (needs, long) in
+    c .group-of .ensures ∙ sym (ap lastGroup (last-first _ _ _ (c .before .before .if1 .left) (omega arith)))
+
+pub last-group-spec : {M : Type 1} → statement M
+last-group-spec =
+    tie.close (tie.spec returns sub-one mul-one element-copy-out-one group-of-requires returns-2)

@@ -1,0 +1,2 @@
+-- What the contracts of `accepted` cite beside the model's own definitions.
+pub mod Answers
