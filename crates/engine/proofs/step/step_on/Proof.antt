@@ -1,0 +1,48 @@
+-- A command number below the count names a command that is accepted, as its scheme is; one at or above it is answered 10.
+-- Assumes nothing.
+use borrow.Author.Needs.{needs}
+use Rattle.engine.proofs.StepLaws.{no-command, few-commands, command-ready, command-step}
+use Rattle.engine.proofs.step.step_on.Statement.{statement}
+use Rattle.engine.proofs.step.step_on.Tie as tie
+
+refuse-requires : tie.Need-refuse-requires
+refuse-requires c κs = search needs
+
+returns : tie.Need-returns
+returns c =
+    let s = c .before .before .before .before .before .before .args in
+    no-command (s .t1) _ (s .command) _ (search needs) _ (c .refuse .ensures)
+
+mul-c : tie.Need-mul-c
+mul-c c = search needs
+
+element-copy-out-c : tie.Need-element-copy-out-c
+element-copy-out-c c =
+    let s = c .before .before .before .before .before in
+    let few = few-commands (s .args .t1) (s .pre .0) in
+    search needs
+
+carry-out-requires : tie.Need-carry-out-requires
+carry-out-requires c κs =
+    let s = c .before .before .before .before .before .before .before in
+    command-ready (s .args .t1) (s .pre .0) _ (s .args .command) (search needs) _ (s .pre .1)
+
+same-length : tie.Need-same-length
+same-length c = search needs
+
+returns-2 : tie.Need-returns-2
+returns-2 c =
+    let s = c .before .before .before .before .before .before .before .before .before .before in
+    command-step (s .args .t1) (s .pre .0) _ (s .args .command) (search needs) _ _ _ (c .before .before .carry-out .ensures)
+
+pub step-on-spec : {M : Type 1} → statement M
+step-on-spec =
+    tie.close
+    (tie.spec
+    refuse-requires
+    returns
+    mul-c
+    element-copy-out-c
+    carry-out-requires
+    same-length
+    returns-2)

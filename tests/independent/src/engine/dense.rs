@@ -1,0 +1,187 @@
+//! A second engine, fast and in place, for benchmarks; it has the same answers as the literal one.
+
+use crate::matrix::{Matrix, MOST_THINGS};
+use crate::scheme::{Command, Operation, Scheme};
+
+const SEATS: usize = MOST_THINGS;
+
+/// Things sit on seats. A free seat has id 0, and every cell that doesn't exist is 0.
+#[derive(Clone)]
+pub struct Dense {
+    ids: [u16; SEATS],
+    types: [u8; SEATS],
+    things: usize,
+    cells: Box<[u64; SEATS * SEATS]>,
+}
+
+impl Dense {
+    pub fn from_matrix(matrix: &Matrix) -> Dense {
+        let mut dense = Dense {
+            ids: [0; SEATS],
+            types: [0; SEATS],
+            things: matrix.things().len(),
+            cells: Box::new([0; SEATS * SEATS]),
+        };
+        for (seat, (&id, &kind)) in matrix.things().iter().enumerate() {
+            dense.ids[seat] = id;
+            dense.types[seat] = kind;
+        }
+        for (&(row, column), &rights) in matrix.cells() {
+            let place = place(dense.seat_of(row).unwrap(), dense.seat_of(column).unwrap());
+            dense.cells[place] = rights;
+        }
+        dense
+    }
+
+    pub fn to_matrix(&self, scheme: &Scheme) -> Matrix {
+        let mut matrix = Matrix::new();
+        let taken: Vec<usize> = (0..SEATS).filter(|&seat| self.ids[seat] != 0).collect();
+        for &seat in &taken {
+            matrix.create(scheme, self.ids[seat], self.types[seat]);
+        }
+        for &row in &taken {
+            for &column in &taken {
+                let rights = self.cells[place(row, column)];
+                if rights != 0 {
+                    matrix.set_cell(self.ids[row], self.ids[column], rights);
+                }
+            }
+        }
+        matrix
+    }
+
+    /// 0 and the changed matrix, or 10 to 17 and no effect at all.
+    pub fn carry_out(&mut self, scheme: &Scheme, command: usize, ids: &[u16]) -> u8 {
+        let Some(command) = scheme.commands.get(command) else {
+            return 10;
+        };
+        if ids.len() != command.parameters.len() || ids.len() > 8 {
+            return 11;
+        }
+
+        let mut new = 0u8;
+        for operation in &command.operations {
+            let Operation::Create { parameter } = *operation else {
+                break;
+            };
+            new |= 1 << parameter;
+        }
+
+        let mut seats = [0usize; 8];
+        for (parameter, (&id, &kind)) in ids.iter().zip(&command.parameters).enumerate() {
+            if id == 0 {
+                return 12;
+            }
+            if new >> parameter & 1 == 0 {
+                let Some(seat) = self.seat_of(id) else {
+                    return 12;
+                };
+                if self.types[seat] != kind {
+                    return 13;
+                }
+                seats[parameter] = seat;
+            }
+        }
+
+        for test in &command.tests {
+            let set = self.cells[place(
+                seats[test.row as usize & 7],
+                seats[test.column as usize & 7],
+            )];
+            if (set >> test.right & 1 == 1) != test.present {
+                return 14;
+            }
+        }
+
+        let refused = self.refused(command, ids);
+        if refused == 0 {
+            self.change(command, ids, &mut seats);
+        }
+        refused
+    }
+
+    /// 15 to 17 before anything changes: only creates and destroys can refuse, and ids tell things apart.
+    fn refused(&self, command: &Command, ids: &[u16]) -> u8 {
+        let mut things = self.things;
+        let mut created = [0u16; 8];
+        let mut destroyed = [0u16; 8];
+        let mut gone = 0;
+        for operation in &command.operations {
+            match *operation {
+                Operation::Create { parameter } => {
+                    let id = ids[parameter as usize];
+                    let so_far = things - self.things;
+                    if self.seat_of(id).is_some() || created[..so_far].contains(&id) {
+                        return 15;
+                    }
+                    if things == SEATS {
+                        return 16;
+                    }
+                    created[so_far] = id;
+                    things += 1;
+                }
+                Operation::Destroy { parameter } => {
+                    let id = ids[parameter as usize];
+                    if destroyed[..gone].contains(&id) {
+                        return 17;
+                    }
+                    destroyed[gone] = id;
+                    gone += 1;
+                }
+                Operation::Enter { .. } | Operation::Delete { .. } => {}
+            }
+        }
+        0
+    }
+
+    /// The operations of a request that isn't refused.
+    fn change(&mut self, command: &Command, ids: &[u16], seats: &mut [usize; 8]) {
+        for operation in &command.operations {
+            match *operation {
+                Operation::Enter { right, row, column } => {
+                    let place = place(seats[row as usize & 7], seats[column as usize & 7]);
+                    self.cells[place] |= 1 << right;
+                }
+                Operation::Delete { right, row, column } => {
+                    let place = place(seats[row as usize & 7], seats[column as usize & 7]);
+                    self.cells[place] &= !(1 << right);
+                }
+                Operation::Create { parameter } => {
+                    let parameter = parameter as usize;
+                    let seat = self.seat_of(0).expect("a seat is free below 48 things");
+                    self.ids[seat] = ids[parameter];
+                    self.types[seat] = command.parameters[parameter];
+                    self.things += 1;
+                    seats[parameter] = seat;
+                }
+                Operation::Destroy { parameter } => {
+                    let seat = seats[parameter as usize & 7];
+                    self.ids[seat] = 0;
+                    self.types[seat] = 0;
+                    self.things -= 1;
+                    for other in 0..SEATS {
+                        self.cells[place(seat, other)] = 0;
+                        self.cells[place(other, seat)] = 0;
+                    }
+                }
+            }
+        }
+    }
+
+    /// The first seat with this id; the first free one for 0.
+    fn seat_of(&self, id: u16) -> Option<usize> {
+        // Sixteen at a time without a branch: the compiler makes wide comparisons of it.
+        for (part, ids) in self.ids.chunks_exact(16).enumerate() {
+            let matches = ids.iter().fold(false, |any, &found| any | (found == id));
+            if matches {
+                let inside = ids.iter().position(|&found| found == id)?;
+                return Some(16 * part + inside);
+            }
+        }
+        None
+    }
+}
+
+fn place(row: usize, column: usize) -> usize {
+    row * SEATS + column
+}

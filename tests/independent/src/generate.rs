@@ -1,0 +1,85 @@
+//! Makes cases, valid and damaged, from a seed, so that two programs can be compared on the same inputs.
+
+pub mod damage;
+pub mod fields;
+pub mod matrices;
+pub mod random;
+pub mod requests;
+pub mod schemes;
+
+use crate::matrix::{read_matrix, write_matrix};
+use crate::print::MOST_INPUT;
+use crate::scheme::{read_scheme, write_scheme};
+use random::Random;
+
+/// The three inputs of `play`, and what no file of `play` can hold.
+#[derive(Clone, Debug, PartialEq, Eq)]
+pub struct Case {
+    pub scheme: Vec<u8>,
+    pub matrix: Vec<u8>,
+    pub requests: Vec<u8>,
+    /// Requests to hand in directly after the list's, and to write; some have more than 8 ids.
+    pub direct: Vec<(u8, Vec<u16>)>,
+    /// The length of an output buffer to write into.
+    pub room: usize,
+}
+
+/// The case of a seed and a number; it doesn't depend on the cases before it.
+pub fn case(seed: u64, number: u64) -> Case {
+    let random = &mut Random::new(seed, number);
+    let mut scheme = schemes::scheme(random);
+    let mut matrix = matrices::matrix(random, &scheme);
+    let mut case = Case {
+        scheme: write_scheme(&scheme),
+        matrix: write_matrix(&matrix, &scheme),
+        requests: Vec::new(),
+        direct: Vec::new(),
+        room: 0,
+    };
+
+    match random.below(20) {
+        0..=5 => damage::damage(random, &mut case.scheme),
+        6..=10 => damage::damage(random, &mut case.matrix),
+        11 if random.chance(1, 2) => {
+            let other = schemes::scheme(random);
+            case.matrix = write_matrix(&matrices::matrix(random, &other), &other);
+        }
+        12 if random.chance(1, 8) => case.scheme.clear(),
+        12 if random.chance(1, 8) => case.matrix.clear(),
+        _ => {}
+    }
+
+    // Where a damaged scheme or matrix can still be read, the requests are made for what it says now.
+    if let Ok((read, _)) = read_scheme(&case.scheme) {
+        scheme = read;
+        if let Ok(read) = read_matrix(&case.matrix, &scheme) {
+            matrix = read;
+        } else {
+            matrix = matrices::matrix(random, &scheme);
+        }
+    }
+    case.requests = requests::list(random, &scheme, &mut matrix);
+    case.direct = requests::direct(random, &scheme, &matrix);
+    if random.chance(1, 5) {
+        damage::damage(random, &mut case.requests);
+    }
+    if random.chance(1, 300) && !case.requests.is_empty() {
+        case.requests = case.requests.repeat(MOST_INPUT / case.requests.len() + 1);
+    }
+    case.room = room(random, &case);
+    case
+}
+
+/// A buffer's length near the length of something that will be written.
+fn room(random: &mut Random, case: &Case) -> usize {
+    let request = 6 + 2 * random.below(9);
+    let size = *random.pick(&[
+        case.scheme.len(),
+        case.matrix.len(),
+        request,
+        70_000,
+        70_000,
+        70_000,
+    ]);
+    (size + random.below(3)).saturating_sub(1)
+}

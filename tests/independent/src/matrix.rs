@@ -1,0 +1,161 @@
+//! The matrix as the outline speaks of it: things and existing cells by ids, with its reader and writer.
+
+use std::collections::BTreeMap;
+
+use crate::bytes::{put_record, Record, CELL, MATRIX_HEAD, THING};
+use crate::refusal::{Fault, Found, Refusal};
+use crate::scheme::{Scheme, MOST_RIGHTS};
+
+pub const MOST_THINGS: usize = 48;
+
+#[derive(Clone, Debug, Default, PartialEq, Eq)]
+pub struct Matrix {
+    /// The type of each thing.
+    things: BTreeMap<u16, u8>,
+    /// The rights of every cell that exists, empty ones too, by row id and column id.
+    cells: BTreeMap<(u16, u16), u64>,
+}
+
+impl Matrix {
+    pub fn new() -> Matrix {
+        Matrix::default()
+    }
+
+    pub fn things(&self) -> &BTreeMap<u16, u8> {
+        &self.things
+    }
+
+    pub fn cells(&self) -> &BTreeMap<(u16, u16), u64> {
+        &self.cells
+    }
+
+    pub fn type_of(&self, id: u16) -> Option<u8> {
+        self.things.get(&id).copied()
+    }
+
+    /// The rights of a cell, if the cell exists.
+    pub fn cell(&self, row: u16, column: u16) -> Option<u64> {
+        self.cells.get(&(row, column)).copied()
+    }
+
+    /// Changes a cell that exists.
+    pub fn set_cell(&mut self, row: u16, column: u16, rights: u64) {
+        *self.cells.get_mut(&(row, column)).expect("the cell exists") = rights;
+    }
+
+    /// Adds a thing with empty cells: row and column for a subject type, column otherwise.
+    pub fn create(&mut self, scheme: &Scheme, id: u16, kind: u8) {
+        let old = self.things.insert(id, kind);
+        assert!(old.is_none(), "the id is free");
+        for (&other, &other_kind) in &self.things {
+            if scheme.is_subject_type(other_kind) {
+                self.cells.insert((other, id), 0);
+            }
+            if scheme.is_subject_type(kind) {
+                self.cells.insert((id, other), 0);
+            }
+        }
+    }
+
+    /// Takes a thing and all its cells away.
+    pub fn destroy(&mut self, id: u16) {
+        self.things.remove(&id).expect("the thing exists");
+        self.cells
+            .retain(|&(row, column), _| row != id && column != id);
+    }
+
+    pub fn nonempty_cells(&self) -> usize {
+        self.cells.values().filter(|&&rights| rights != 0).count()
+    }
+
+    /// The rights counted over all cells.
+    pub fn entries(&self) -> u32 {
+        self.cells.values().map(|rights| rights.count_ones()).sum()
+    }
+}
+
+/// The matrix, or the number and the record's position. The next position is the input's length.
+pub fn read_matrix(input: &[u8], scheme: &Scheme) -> Result<Matrix, Refusal> {
+    Ok(find_matrix(input, scheme)?)
+}
+
+/// The same with the fault by name.
+pub fn find_matrix(input: &[u8], scheme: &Scheme) -> Result<Matrix, Found> {
+    let mut head = Record::read(input, 0, MATRIX_HEAD)?;
+    let rights = head.one()?;
+    head.must(
+        (1..=MOST_RIGHTS).contains(&rights),
+        Fault::MatrixRightsCount,
+    )?;
+    head.must(rights == scheme.rights, Fault::MatrixRightsOther)?;
+    let things = head.one()?;
+    head.must(things as usize <= MOST_THINGS, Fault::ThingsCount)?;
+    head.end()?;
+
+    let mut matrix = Matrix::new();
+    let mut at = head.next;
+    let mut last_id = 0;
+    for _ in 0..things {
+        let mut thing = Record::read(input, at, THING)?;
+        let id = thing.two()?;
+        thing.must(id != 0, Fault::ThingIdZero)?;
+        thing.must(id > last_id, Fault::ThingOrder)?;
+        let kind = thing.one()?;
+        thing.must(kind < scheme.types, Fault::ThingType)?;
+        thing.end()?;
+        matrix.create(scheme, id, kind);
+        last_id = id;
+        at = thing.next;
+    }
+
+    let mut last_place = None;
+    while at != input.len() {
+        let mut cell = Record::read(input, at, CELL)?;
+        let row = cell.two()?;
+        cell.must(matrix.type_of(row).is_some(), Fault::CellRowUnknown)?;
+        let is_subject = matrix
+            .type_of(row)
+            .is_some_and(|kind| scheme.is_subject_type(kind));
+        cell.must(is_subject, Fault::CellRowNoSubject)?;
+        let column = cell.two()?;
+        cell.must(matrix.type_of(column).is_some(), Fault::CellColumnUnknown)?;
+        let is_above = last_place.is_none_or(|last| last < (row, column));
+        cell.must(is_above, Fault::CellOrder)?;
+        let set = cell.eight()?;
+        cell.must(set & !all_rights(scheme.rights) == 0, Fault::CellRight)?;
+        cell.must(set != 0, Fault::CellNoRights)?;
+        cell.end()?;
+        matrix.set_cell(row, column, set);
+        last_place = Some((row, column));
+        at = cell.next;
+    }
+    Ok(matrix)
+}
+
+/// The set of the rights 0 to n - 1.
+pub fn all_rights(n: u8) -> u64 {
+    (0..n).fold(0, |set, right| set | 1 << right)
+}
+
+pub fn write_matrix(matrix: &Matrix, scheme: &Scheme) -> Vec<u8> {
+    let mut out = Vec::new();
+    put_record(
+        &mut out,
+        MATRIX_HEAD,
+        &[scheme.rights, matrix.things.len() as u8],
+    );
+    for (id, kind) in &matrix.things {
+        let [low, high] = id.to_le_bytes();
+        put_record(&mut out, THING, &[low, high, *kind]);
+    }
+    for ((row, column), rights) in &matrix.cells {
+        if *rights != 0 {
+            let mut body = Vec::new();
+            body.extend(row.to_le_bytes());
+            body.extend(column.to_le_bytes());
+            body.extend(rights.to_le_bytes());
+            put_record(&mut out, CELL, &body);
+        }
+    }
+    out
+}

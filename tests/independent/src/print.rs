@@ -1,0 +1,115 @@
+//! The text that `play` prints for three inputs, and short listings of what was read for people.
+
+use std::fmt::Write;
+
+use crate::engine::carry_out;
+use crate::matrix::{read_matrix, Matrix};
+use crate::refusal::Refusal;
+use crate::request::{read_request, Next};
+use crate::scheme::{read_scheme, Operation, Scheme};
+
+/// Of a longer file only these first bytes are the input.
+pub const MOST_INPUT: usize = 65_536;
+
+pub fn play(scheme: &[u8], matrix: &[u8], requests: &[u8]) -> String {
+    let [scheme, matrix, requests] = [scheme, matrix, requests].map(first_bytes);
+    let scheme = match read_scheme(scheme) {
+        Ok((scheme, _)) => scheme,
+        Err(refusal) => return bad(refusal),
+    };
+    let mut matrix = match read_matrix(matrix, &scheme) {
+        Ok(matrix) => matrix,
+        Err(refusal) => return bad(refusal),
+    };
+
+    let mut text = String::from("request command result\n");
+    let mut at = 0;
+    for position in 0.. {
+        match read_request(requests, at) {
+            Next::Request { request, next } => {
+                let result =
+                    carry_out(&scheme, &mut matrix, request.command as usize, &request.ids);
+                text += &format!("{position} {} {result}\n", request.command);
+                at = next;
+            }
+            Next::End => break,
+            Next::Refused(refusal) => {
+                text += &bad(refusal);
+                break;
+            }
+        }
+    }
+    text + &end(&matrix)
+}
+
+fn first_bytes(input: &[u8]) -> &[u8] {
+    &input[..input.len().min(MOST_INPUT)]
+}
+
+pub fn bad(refusal: Refusal) -> String {
+    format!("bad {} {}\n", refusal.at, refusal.number)
+}
+
+fn end(matrix: &Matrix) -> String {
+    format!(
+        "end {} {} {}\n",
+        matrix.things().len(),
+        matrix.nonempty_cells(),
+        matrix.entries()
+    )
+}
+
+/// A scheme for people; parameters are written p0, p1 and so on.
+pub fn list_scheme(scheme: &Scheme) -> String {
+    let subjects: Vec<u8> = (0..scheme.types)
+        .filter(|&kind| scheme.is_subject_type(kind))
+        .collect();
+    let mut text = format!(
+        "rights {} types {} subjects {subjects:?}\n",
+        scheme.rights, scheme.types
+    );
+    for (number, command) in scheme.commands.iter().enumerate() {
+        writeln!(text, "command {number} parameters {:?}", command.parameters).unwrap();
+        for test in &command.tests {
+            let sense = if test.present {
+                "present in"
+            } else {
+                "absent from"
+            };
+            writeln!(
+                text,
+                "  if {} {sense} [p{}, p{}]",
+                test.right, test.row, test.column
+            )
+            .unwrap();
+        }
+        for operation in &command.operations {
+            match operation {
+                Operation::Enter { right, row, column } => {
+                    writeln!(text, "  enter {right} in [p{row}, p{column}]")
+                }
+                Operation::Delete { right, row, column } => {
+                    writeln!(text, "  delete {right} from [p{row}, p{column}]")
+                }
+                Operation::Create { parameter } => writeln!(text, "  create p{parameter}"),
+                Operation::Destroy { parameter } => writeln!(text, "  destroy p{parameter}"),
+            }
+            .unwrap();
+        }
+    }
+    text
+}
+
+/// A matrix for people: its things, then its nonempty cells.
+pub fn list_matrix(matrix: &Matrix) -> String {
+    let mut text = String::new();
+    for (id, kind) in matrix.things() {
+        writeln!(text, "thing {id} type {kind}").unwrap();
+    }
+    for ((row, column), rights) in matrix.cells() {
+        if *rights != 0 {
+            writeln!(text, "cell {row} {column} rights {rights}").unwrap();
+        }
+    }
+    text
+}

@@ -1,0 +1,162 @@
+//! Counts how often each refusal comes up over generated cases, so that it shows what a comparison covers.
+
+use std::collections::BTreeMap;
+use std::fmt;
+
+use crate::bytes::store;
+use crate::convert::{convert_matrix, convert_scheme};
+use crate::engine::carry_out;
+use crate::generate::{case, Case};
+use crate::matrix::{find_matrix, write_matrix, Matrix};
+use crate::print::MOST_INPUT;
+use crate::refusal::{Fault, Found};
+use crate::request::{find_request, write_request};
+use crate::scheme::{find_scheme, write_scheme, Scheme};
+
+/// What was asked: each a column of the table.
+#[derive(Clone, Copy, Debug, PartialEq, Eq, PartialOrd, Ord)]
+pub enum Asked {
+    Scheme,
+    Matrix,
+    RequestRecord,
+    Request,
+    Conversion,
+    Writing,
+}
+
+const COLUMNS: [(Asked, &str); 6] = [
+    (Asked::Scheme, "scheme"),
+    (Asked::Matrix, "matrix"),
+    (Asked::RequestRecord, "record"),
+    (Asked::Request, "request"),
+    (Asked::Conversion, "conversion"),
+    (Asked::Writing, "writing"),
+];
+
+#[derive(Clone, Debug, Default)]
+pub struct Statistics {
+    pub numbers: BTreeMap<(u8, Asked), u64>,
+    pub faults: BTreeMap<Fault, u64>,
+}
+
+impl Statistics {
+    pub fn of(seed: u64, count: u64) -> Statistics {
+        let mut statistics = Statistics::default();
+        for number in 0..count {
+            statistics.add(&case(seed, number));
+        }
+        statistics
+    }
+
+    pub fn count(&self, number: u8, asked: Asked) -> u64 {
+        self.numbers.get(&(number, asked)).copied().unwrap_or(0)
+    }
+
+    pub fn fault(&self, fault: Fault) -> u64 {
+        self.faults.get(&fault).copied().unwrap_or(0)
+    }
+
+    pub fn add(&mut self, case: &Case) {
+        let Some((scheme, _)) = self.reading(Asked::Scheme, find_scheme(&case.scheme)) else {
+            return;
+        };
+        let Some(mut matrix) = self.reading(Asked::Matrix, find_matrix(&case.matrix, &scheme))
+        else {
+            return;
+        };
+        self.convert(&scheme, &matrix, case.room);
+        self.write(&scheme, &matrix, case);
+
+        let list = &case.requests[..case.requests.len().min(MOST_INPUT)];
+        let mut at = 0;
+        loop {
+            let found = find_request(list, at);
+            let Some(Some((request, next))) = self.reading(Asked::RequestRecord, found) else {
+                break;
+            };
+            let number = carry_out(&scheme, &mut matrix, request.command as usize, &request.ids);
+            self.note(Asked::Request, number);
+            at = next;
+        }
+        for (command, ids) in &case.direct {
+            let number = carry_out(&scheme, &mut matrix, *command as usize, ids);
+            self.note(Asked::Request, number);
+        }
+    }
+
+    /// Scheme and matrix by a call each, then 9 for a buffer that is too short.
+    fn convert(&mut self, scheme: &Scheme, matrix: &Matrix, room: usize) {
+        let mut out = vec![0; room];
+        let converted = convert_scheme(scheme);
+        let bytes = converted.clone().map(|converted| write_scheme(&converted));
+        let stored = bytes.and_then(|bytes| store(&bytes, &mut out));
+        self.note(Asked::Conversion, stored.err().unwrap_or(0));
+
+        let bytes = convert_matrix(matrix, scheme)
+            .and_then(|matrix| converted.map(|converted| write_matrix(&matrix, &converted)));
+        let stored = bytes.and_then(|bytes| store(&bytes, &mut out));
+        self.note(Asked::Conversion, stored.err().unwrap_or(0));
+    }
+
+    fn write(&mut self, scheme: &Scheme, matrix: &Matrix, case: &Case) {
+        let mut out = vec![0; case.room];
+        let mut all = vec![Ok(write_scheme(scheme)), Ok(write_matrix(matrix, scheme))];
+        all.extend(
+            case.direct
+                .iter()
+                .map(|(command, ids)| write_request(*command, ids)),
+        );
+        for bytes in all {
+            let stored = bytes.and_then(|bytes| store(&bytes, &mut out));
+            self.note(Asked::Writing, stored.err().unwrap_or(0));
+        }
+    }
+
+    fn reading<T>(&mut self, asked: Asked, answer: Result<T, Found>) -> Option<T> {
+        match answer {
+            Ok(content) => {
+                self.note(asked, 0);
+                Some(content)
+            }
+            Err(found) => {
+                self.note(asked, found.fault.number());
+                *self.faults.entry(found.fault).or_default() += 1;
+                None
+            }
+        }
+    }
+
+    fn note(&mut self, asked: Asked, number: u8) {
+        *self.numbers.entry((number, asked)).or_default() += 1;
+    }
+}
+
+impl fmt::Display for Statistics {
+    fn fmt(&self, out: &mut fmt::Formatter) -> fmt::Result {
+        write!(out, "number")?;
+        for (_, name) in COLUMNS {
+            write!(out, " {name:>10}")?;
+        }
+        writeln!(out)?;
+        for number in 0..=22 {
+            if number != 18 && number != 19 {
+                write!(out, "{number:>6}")?;
+                for (asked, _) in COLUMNS {
+                    write!(out, " {:>10}", self.count(number, asked))?;
+                }
+                writeln!(out)?;
+            }
+        }
+        writeln!(out, "\nnumber      count fault")?;
+        for fault in Fault::ALL {
+            writeln!(
+                out,
+                "{:>6} {:>10} {}",
+                fault.number(),
+                self.fault(*fault),
+                fault.words()
+            )?;
+        }
+        Ok(())
+    }
+}

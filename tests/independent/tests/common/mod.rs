@@ -1,0 +1,45 @@
+//! What the tests share: the outline's key example, and bytes written as text.
+#![allow(dead_code)]
+
+use independent::matrix::{read_matrix, Matrix};
+use independent::request::write_request;
+use independent::scheme::{read_scheme, Scheme};
+
+/// The outline's 47 bytes.
+pub const KEY_SCHEME: &str = "05 00 01 00 04 03 03 00 02 / \
+    0D 00 02 00 02 00 01 01 01 00 00 01 01 01 02 01 01 / \
+    11 00 02 00 02 01 02 02 01 01 00 01 00 02 00 00 01 01 03 00 01";
+
+/// Things 5 manager, 9 key, 12 robot; cells [5,9] = 1, [9,12] = 2; written by hand.
+pub const KEY_MATRIX: &str = "02 00 03 00 04 03 / \
+    03 00 04 00 05 00 00 / 03 00 04 00 09 00 01 / 03 00 04 00 0C 00 02 / \
+    0C 00 05 00 05 00 09 00 01 00 00 00 00 00 00 00 / \
+    0C 00 05 00 09 00 0C 00 02 00 00 00 00 00 00 00";
+
+pub const RETIRE: usize = 0;
+pub const LOAD: usize = 1;
+
+/// Hexadecimal bytes; a slash is only for the eye.
+pub fn bytes(text: &str) -> Vec<u8> {
+    let parts = text.split_whitespace().filter(|part| *part != "/");
+    parts
+        .map(|part| u8::from_str_radix(part, 16).expect("two digits"))
+        .collect()
+}
+
+pub fn key_scheme() -> Scheme {
+    read_scheme(&bytes(KEY_SCHEME))
+        .expect("the key example is a scheme")
+        .0
+}
+
+pub fn key_matrix() -> Matrix {
+    read_matrix(&bytes(KEY_MATRIX), &key_scheme()).expect("the key example has a matrix")
+}
+
+pub fn list(requests: &[(u8, &[u16])]) -> Vec<u8> {
+    requests
+        .iter()
+        .flat_map(|(command, ids)| write_request(*command, ids).unwrap())
+        .collect()
+}

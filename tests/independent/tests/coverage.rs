@@ -1,0 +1,84 @@
+//! The generator reaches every refusal number and each fault by name, and gives the same cases for the same seed.
+
+use independent::generate::{case, random::Random, schemes};
+use independent::print::MOST_INPUT;
+use independent::refusal::Fault;
+use independent::scheme::{Operation, Scheme};
+use independent::statistics::{Asked, Statistics};
+
+const SEED: u64 = 1;
+const COUNT: u64 = 10_000;
+
+#[test]
+fn every_number_and_every_fault_is_reached() {
+    let statistics = Statistics::of(SEED, COUNT);
+    let reached = |numbers: &[u8], asked: Asked| {
+        for &number in numbers {
+            assert!(
+                statistics.count(number, asked) > 0,
+                "{number} of {asked:?}\n{statistics}"
+            );
+        }
+    };
+    reached(&[0, 1, 2, 3, 4, 5, 6, 8], Asked::Scheme);
+    reached(&[0, 1, 2, 3, 4, 5, 6, 7], Asked::Matrix);
+    reached(&[0, 1, 2, 3, 4], Asked::RequestRecord);
+    reached(&[0, 10, 11, 12, 13, 14, 15, 16, 17], Asked::Request);
+    reached(&[0, 9, 20, 21, 22], Asked::Conversion);
+    reached(&[0, 4, 9], Asked::Writing);
+    for &fault in Fault::ALL {
+        assert!(
+            statistics.fault(fault) > 0,
+            "{}\n{statistics}",
+            fault.words()
+        );
+    }
+}
+
+#[test]
+fn a_seed_and_a_number_give_one_case() {
+    for number in 0..50 {
+        assert_eq!(case(SEED, number), case(SEED, number));
+        assert_ne!(case(SEED, number), case(SEED + 1, number));
+        assert_ne!(case(SEED, number), case(SEED, number + 1));
+    }
+}
+
+#[test]
+fn every_limit_is_reached() {
+    let schemes: Vec<Scheme> = (0..2_000)
+        .map(|number| schemes::scheme(&mut Random::new(SEED, number)))
+        .collect();
+    let commands = || schemes.iter().flat_map(|scheme| &scheme.commands);
+    let some = |holds: bool| assert!(holds);
+    for n in [1, 32, 33, 64] {
+        some(schemes.iter().any(|scheme| scheme.rights == n));
+    }
+    some(
+        schemes.iter().any(|scheme| scheme.types == 1)
+            && schemes.iter().any(|scheme| scheme.types == 16),
+    );
+    some(schemes.iter().any(|scheme| scheme.subjects == 0));
+    some(schemes.iter().any(|scheme| scheme.commands.len() == 1));
+    some(schemes.iter().any(|scheme| scheme.commands.len() == 32));
+    for k in [1, 8] {
+        some(commands().any(|command| command.parameters.len() == k));
+    }
+    for tests in [0, 16] {
+        some(commands().any(|command| command.tests.len() == tests));
+    }
+    for operations in [1, 16, 17, 32] {
+        some(commands().any(|command| command.operations.len() == operations));
+    }
+    // A parameter that one command both creates and destroys, and eight creates at once.
+    some(commands().any(|command| {
+        (0..8).any(|parameter| {
+            command.is_new(parameter)
+                && command
+                    .operations
+                    .contains(&Operation::Destroy { parameter })
+        })
+    }));
+    some(commands().any(|command| (0..8).all(|parameter| command.is_new(parameter))));
+    some((0..1_000).any(|number| case(SEED, number).requests.len() > MOST_INPUT));
+}

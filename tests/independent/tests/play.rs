@@ -1,0 +1,54 @@
+//! What `play` prints where something can't be read, is empty, or is too long.
+
+mod common;
+
+use common::*;
+use independent::print::{play, MOST_INPUT};
+
+#[test]
+fn a_bad_scheme_or_matrix_prints_one_line() {
+    assert_eq!(play(&[], &[], &[]), "bad 0 1\n");
+    assert_eq!(play(&bytes(KEY_SCHEME), &[], &[]), "bad 0 1\n");
+    let mut longer = bytes(KEY_SCHEME);
+    longer.push(0);
+    assert_eq!(play(&longer, &[], &[]), "bad 47 8\n");
+    let mut matrix = bytes(KEY_MATRIX);
+    matrix[10] = 0;
+    assert_eq!(play(&bytes(KEY_SCHEME), &matrix, &[]), "bad 6 6\n");
+}
+
+#[test]
+fn an_empty_list_is_a_list() {
+    let text = play(&bytes(KEY_SCHEME), &bytes(KEY_MATRIX), &[]);
+    assert_eq!(text, "request command result\nend 3 2 2\n");
+}
+
+#[test]
+fn a_bad_request_record_ends_the_list() {
+    let mut requests = list(&[(1, &[9, 12]), (200, &[])]);
+    requests.extend([1, 2, 3]);
+    let text = play(&bytes(KEY_SCHEME), &bytes(KEY_MATRIX), &requests);
+    assert_eq!(
+        text,
+        "request command result\n0 1 0\n1 200 10\nbad 16 1\nend 3 2 3\n"
+    );
+}
+
+#[test]
+fn only_the_first_65536_bytes_count() {
+    // Records of 6 bytes: 10922 fit, and 4 bytes of the next one are left.
+    let requests = list(&vec![(7, &[][..]); 10_923]);
+    assert_eq!(requests.len(), 65_538);
+    let text = play(&bytes(KEY_SCHEME), &bytes(KEY_MATRIX), &requests);
+    assert!(text.ends_with("\n10921 7 10\nbad 65532 1\nend 3 2 2\n"));
+
+    // Records of 8 bytes end exactly there.
+    let requests = list(&vec![(7, &[1][..]); 8_193]);
+    let text = play(&bytes(KEY_SCHEME), &bytes(KEY_MATRIX), &requests);
+    assert!(text.ends_with("\n8191 7 10\nend 3 2 2\n"));
+
+    // What stands behind them is no input, so it isn't even leftover.
+    let mut scheme = bytes(KEY_SCHEME);
+    scheme.resize(MOST_INPUT + 10, 0);
+    assert_eq!(play(&scheme, &[], &[]), "bad 47 8\n");
+}
