@@ -6,3 +6,4 @@ pub mod PlanLaws
 pub mod PlanIsStep
 pub mod Padding
 pub mod StepLaws
+pub mod ListLaws

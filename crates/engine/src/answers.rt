@@ -24,3 +24,15 @@ pub struct Planning {
     pub things: Things,
     pub at: [u8; 8],
 }
+
+// How a list of requests ended: with its end, or with a record that can't be read, after so many requests; or it was refused as a whole.
+pub enum RunAnswer {
+    Whole { count: usize },
+    Bad { count: usize, number: u8, at: usize },
+    Refused(u8),
+}
+
+pub struct Ran {
+    pub answer: RunAnswer,
+    pub things: Things,
+}

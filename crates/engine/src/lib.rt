@@ -1,10 +1,14 @@
-// One request on a lent matrix.
+// One request, and a list of requests, on a lent matrix.
 mod answers;
 mod cells;
+mod list;
 mod locate;
 mod plan;
 mod step;
 
 pub use answers::Answer;
+pub use answers::Ran;
+pub use answers::RunAnswer;
 pub use answers::Stepped;
+pub use list::run_list;
 pub use step::request;

@@ -121,6 +121,10 @@ command h = do
 unfoldable pub schemeOf : Head → List Command → Scheme
 schemeOf h cs = record { head = h; commands = cs ++ replicate (32 - length cs) noCommand }
 
+-- a table before anything is read into it
+unfoldable pub noScheme : Scheme
+noScheme = schemeOf (record { rights = 0; types = 0; subjects = record { 0 = 0 }; count = 0 }) []
+
 unfoldable pub atEnd : List ℕ → Reader ℕ Refusal Unit
 atEnd s = λ at. cond (eqb at (length s)) (got tt at) (fault (record { number = 8; at = at }))
 

@@ -5,5 +5,6 @@ mod read;
 mod write;
 
 pub use answers::SchemeAnswer;
+pub use read::no_scheme;
 pub use read::read_scheme;
 pub use write::write_scheme;

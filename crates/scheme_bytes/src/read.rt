@@ -29,6 +29,7 @@ use records::RecordAnswer;
 use rights::Parameter;
 use rights::Right;
 use rights::ThingType;
+use rights::TypeSet;
 ghost use mathlib.Core.Path.{_≡_};
 ghost use mathlib.Core.List.{[], _∷_};
 ghost use Prim.Native.Nat.{_≤_, _<_};
@@ -36,7 +37,7 @@ ghost use lib.ListN.{drop};
 ghost use Rattle.records.specs.Reading.{whole, steps, got, fault};
 ghost use Rattle.records.specs.Front.{inRecord};
 ghost use Rattle.accepted.specs.Answers.{typesOf, listOf};
-ghost use Rattle.scheme_bytes.specs.Read.{type, test, operation, commandFrom, command, noTest, noOperation, noCommand};
+ghost use Rattle.scheme_bytes.specs.Read.{type, test, operation, commandFrom, command, noTest, noOperation, noCommand, noScheme};
 ghost use Rattle.scheme_bytes.specs.Answers.{asTypes, asTests, asOperations, asCommand, asCommandAt, asCommandsAt, refusalOf, asScheme, readScheme};
 
 // ---- nothing, as the unused places of the arrays hold it
@@ -84,6 +85,22 @@ fn no_command() -> Command
         parameters,
         tests,
         operations,
+    }
+}
+
+// A table to read into: no rights, no types, no commands. No reading gives it, so it is 27 everywhere.
+pub fn no_scheme() -> Scheme
+    ensures { λ r. ⌜ r ≡ noScheme ⌝ }
+{
+    let none = no_command();
+    Scheme {
+        head: Head {
+            rights: 0,
+            types: 0,
+            subjects: TypeSet(0),
+            count: 0,
+        },
+        commands: [none; 32],
     }
 }
 

@@ -1,0 +1,11 @@
+-- The laws of matrices as bytes: things and cells by rising id, both round trips, and what the functions' proofs cite.
+pub mod Rising
+pub mod Spots
+pub mod Cells
+pub mod Stored
+pub mod Trips
+pub mod RoundTrips
+pub mod FieldReads
+pub mod ReadLaws
+pub mod OrderLaws
+pub mod WriteLaws

@@ -1,0 +1,124 @@
+-- Both round trips of a matrix: from its content to bytes and back, and from bytes to a content and back.
+-- Assumes nothing.
+use Prim.Native.Nat.{ℕ, _≤_, _<_}
+use mathlib.Core.Path.{_≡_, refl, sym, _∙_}
+use mathlib.Core.Bool.{Bool, true, false, cond, _&&_}
+use mathlib.Core.List.{List, [], _∷_, _++_, append-nil}
+use native.Mathlib.Omega.{arith}
+use lib.Dec.{T, leb, leb→le}
+use lib.ListN.{length}
+use lib.Seq.{drop-length}
+use borrow.Author.Tests.{leb-true, leb-false}
+use Rattle.model.specs.Seats.{Matrix, known, seat, standsFor}
+use Rattle.model.specs.Accepted.{between, headFault, acceptedScheme}
+use Rattle.model.specs.declared.Head.{Head}
+use Rattle.model.specs.declared.Scheme.{Scheme}
+use Rattle.model.proofs.Bools.{is-false, and-left, and-right, must-pass, first-pass, then-pass}
+use Rattle.model.proofs.Held.{Held}
+use Rattle.model.proofs.HeldLaws.{held, accepted}
+use Rattle.model.proofs.Find.{seat-is}
+use Rattle.model.proofs.SeatChange.{state-eq}
+use Rattle.records.specs.Bytes.{recordBytes}
+use Rattle.records.specs.Reading.{got, steps}
+use Rattle.records.specs.Front.{inRecord}
+use Rattle.records.proofs.Trip.{Bytes, Stand, bind-got, got-same, stand-split, stand-join}
+use Rattle.matrix_bytes.specs.Content.{Thing, Cell, thingsOf, cellsOf, matrixFrom}
+use Rattle.matrix_bytes.specs.Read.{head, thing, cell, start, toEnd, matrix}
+use Rattle.matrix_bytes.specs.Write.{thingRecords, cellRecords, matrixBytes}
+use Rattle.matrix_bytes.specs.Promises.{RoundTrips}
+use Rattle.matrix_bytes.proofs.Rising.{Rising, from-type, things-rising, things-few, things-type, things-again}
+use Rattle.matrix_bytes.proofs.Cells.{cells-between, cells-each, cells-at}
+use Rattle.matrix_bytes.proofs.Stored.{from-accepted, from-rights, cells-again}
+use Rattle.matrix_bytes.proofs.Trips.{Sized, stand-le, head-record, things-trip, cells-there, cells-back}
+
+pub sized : (s : Scheme) → T (acceptedScheme s) → Sized (s .head)
+unfolding acceptedScheme headFault between
+sized s t = search (and-left, and-right, must-pass, first-pass, then-pass, leb→le) depth 8
+
+-- an id above 65535 is no thing's
+too-high : (h : Head) (m : Matrix) → Held h m → (x y : ℕ) → 65535 < y → standsFor m .rights x y ≡ 0
+unfolding standsFor
+too-high h m ok x y l = rw (is-false (known (m .things) y) unknown) (go (known (m .things) x) _)
+  where
+    unknown : T (known (m .things) y) → ⊥
+    unknown k = omega (arith, seat-is (m .things) y k, ok .things .small (seat (m .things) y))
+
+    go : (b : Bool) (v : ℕ) → cond (b && false) v 0 ≡ 0
+    go true v = refl
+    go false v = refl
+
+-- ---- the things by rising id, and the cells by rising place, say the same
+pub same-content : (h : Head) (m : Matrix) → Held h m → standsFor (matrixFrom (thingsOf m) (cellsOf h m)) ≡ standsFor m
+unfolding standsFor matrixFrom
+same-content h m ok = state-eq _ _ (λ x. from-type h (thingsOf m) rise x ∙ things-type h m ok x) (λ x y. go x y (leb y 65535) refl)
+  where
+    rise : Rising h 0 (thingsOf m)
+    rise = things-rising h m ok
+
+    M : Matrix
+    M = matrixFrom (thingsOf m) (cellsOf h m)
+
+    again : Held h M
+    again = from-accepted h (thingsOf m) rise (things-few h m ok) (cellsOf h m) (cells-each h m ok)
+
+    go : (x y : ℕ) (b : Bool) → leb y 65535 ≡ b → standsFor M .rights x y ≡ standsFor m .rights x y
+    go x y true e =
+        let l : y ≤ 65535 = leb-true y 65535 e in
+        from-rights h (thingsOf m) rise (things-few h m ok) (cellsOf h m) (cells-each h m ok) (cells-between h m ok) x y l ∙ cells-at h m ok x y l
+    go x y false e =
+        let l : 65535 < y = leb-false y 65535 e in
+        too-high h M again x y l ∙ sym (too-high h m ok x y l)
+
+-- a whole input stands in itself
+stand-all : (s : List ℕ) → Stand s s 0 (length s)
+stand-all s = record { next = omega arith; bytes = sym (rw (drop-length s) (append-nil s)) }
+
+module _ (h : Head) (z : Sized h) where
+  -- ---- written, then read
+  pub there : (m : Matrix) → Held h m → matrix h (matrixBytes h m) 0 ≡ got (matrixFrom (thingsOf m) (cellsOf h m)) (length (matrixBytes h m))
+  unfolding matrix matrixBytes
+  there m ok =
+      let s : List ℕ = matrixBytes h m in
+      let first : List ℕ = recordBytes 3 (h .rights ∷ length (thingsOf m) ∷ []) in
+      let (j, p, c) = stand-split s (first ++ thingRecords (thingsOf m)) (cellRecords (cellsOf h m)) {i = 0} {k = length s} (stand-all s) in
+      let (i, a, b) = stand-split s first (thingRecords (thingsOf m)) p in
+      let count = head-record h z s .there (length (thingsOf m)) (things-few h m ok) 0 i a in
+      let things = things-trip h z s (length (thingsOf m)) .there (thingsOf m) (things-rising h m ok, refl) i j b in
+      let cells = cells-there h z s (thingsOf m) (cells-between h m ok) (cells-each h m ok) j c in
+      rw (count, things, cells)
+
+  -- ---- read, then written
+  abbrev pub Written : List ℕ → Matrix → ℕ → Type 0
+  Written s m next = Held h m × (s ≡ matrixBytes h m) × (next ≡ length s)
+
+  written : (s : List ℕ) → Bytes s → (count i j k : ℕ) (ts : List Thing) (cs : List Cell) → inRecord s 8 (λ kind. head h) 0 ≡ got count i →
+      steps (λ last. inRecord s 16 (λ kind. thing h last)) (λ last t. t .id) count 0 i ≡ got ts j →
+      toEnd s (λ last. inRecord s 32 (λ kind. cell h ts last)) (λ last c. c) (length s) start j ≡ got cs k → Written s (matrixFrom ts cs) k
+  unfolding matrixBytes
+  written s g count i j k ts cs e1 e2 e3 =
+      let (a, few) = head-record h z s .back 0 i count g e1 in
+      let (b, up) = things-trip h z s count .back i j ts g e2 in
+      let (c, between, each, end) = cells-back h z s ts g j k cs (stand-le b (stand-le a (omega arith))) e3 in
+      let few : length ts ≤ 48 = omega arith in
+      let first : List ℕ = recordBytes 3 (h .rights ∷ count ∷ []) in
+      let all : Stand s (first ++ thingRecords ts ++ cellRecords cs) 0 k =
+      stand-join s (first ++ thingRecords ts) (cellRecords cs) (stand-join s first (thingRecords ts) a b) c in
+      let same = rw (end, drop-length, append-nil) at (all .bytes) in
+      let things = things-again h ts cs (up .0) in
+      let cells = cells-again h ts (up .0) few cs each between in
+      (from-accepted h ts (up .0) few cs each, same ∙ rw (things, cells, up .1), end)
+
+  pub back : (s : List ℕ) (m : Matrix) (next : ℕ) → Bytes s → matrix h s 0 ≡ got m next → Written s m next
+  unfolding matrix
+  back s m next g e =
+      let (count, i, e1, f1) = bind-got (inRecord s 8 (λ kind. head h) 0) _ e in
+      let (ts, j, e2, f2) = bind-got (steps (λ last. inRecord s 16 (λ kind. thing h last)) (λ last t. t .id) count 0 i) _ f1 in
+      let (cs, k, e3, f3) = bind-got (toEnd s (λ last. inRecord s 32 (λ kind. cell h ts last)) (λ last c. c) (length s) start j) _ f2 in
+      got-same (Written s) f3 (written s g count i j k ts cs e1 e2 e3)
+
+pub round-trips : RoundTrips
+round-trips = record {
+  there = λ s m t u. there (s .head) (sized s t) m (held (s .head) m u);
+  sameContent = λ s m t u. same-content (s .head) m (held (s .head) m u);
+  back = λ s bytes m next t g e. let (ok, same, end) = back (s .head) (sized s t) bytes m next g e in (accepted (s .head) m ok, same, end);
+}

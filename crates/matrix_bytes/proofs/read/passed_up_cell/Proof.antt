@@ -1,0 +1,22 @@
+-- `matrix_bytes::read::passed_up_cell` meets its contract: a refusal keeps its number and its position.
+-- Assumes nothing.
+use borrow.Author.Needs.{needs}
+use Rattle.matrix_bytes.proofs.read.passed_up_cell.Statement.{statement}
+use Rattle.matrix_bytes.proofs.read.passed_up_cell.Tie as tie
+
+enum-known-found : tie.Need-enum-known-found
+enum-known-found c = search needs
+
+enum-told : tie.Need-enum-told
+enum-told c = search needs
+
+returns : tie.Need-returns
+returns c =
+    rw (c .before .found .given .1)
+
+returns-2 : tie.Need-returns-2
+returns-2 c =
+    rw (c .enum-told .given .1)
+
+pub passed-up-cell-spec : {M : Type 1} → statement M
+passed-up-cell-spec = tie.close (tie.spec enum-known-found enum-told returns returns-2)
