@@ -4,45 +4,29 @@ use Prim.Native.Nat.{ℕ, zero, suc, _+_, _*_, _/_, _%_, _≤_, _<_}
 use mathlib.Core.Path.{_≡_, refl, sym, ap, _∙_}
 use mathlib.Core.Logic.{_≢_, _⊎_, inl, inr, ⊎-elim}
 use mathlib.Core.Bool.{Bool, true, false, cond, _&&_, _||_, or-true}
-use mathlib.Core.List.{List, [], _∷_, map}
+use mathlib.Core.List.{List, [], _∷_}
 use native.Mathlib.Nat.{add-zero, add-suc, suc-add, zero-add}
-use native.Mathlib.Numerals.{add-one}
 use native.Mathlib.Omega.{arith}
 use lib.Dec.{eqb}
-use lib.ListN.{length, length-map, getD, set, take, drop, drop-of-length-le}
-use lib.Seq.{drop-cons, getD-take, length-take-le}
+use lib.ListN.{length, getD, set, take, drop}
 use borrow.Author.Tests.{eqb-true, eq-eqb}
 use Rattle.model.specs.Check.{all}
 use Rattle.model.specs.Seats.{blank}
 use Rattle.model.specs.declared.Operation.{Operation}
 use Rattle.engine.specs.Plan.{cellsBy, cellsAfter}
-
--- an array of structs stands in what is known as `map` of its elements
-pub long : (X Y : Type 0) (f : X → Y) (l : List X) (n : ℕ) → length (map f l) ≡ n → length l ≡ n
-long X Y f l n e = sym (length-map l f) ∙ e
+use Rattle.engine.proofs.LocateLaws.{turn-used, ended-used}
 
 module _ {A : Type 0} (l : List A) (n : ℕ) (fits : n ≤ length l) (i : ℕ) where
-  turn : (d : A) → i < n → drop i (take n l) ≡ getD l i d ∷ drop (i + 1) (take n l)
-  turn d h =
-      let e : length (take n l) ≡ n = length-take-le n l fits in
-      let k : i < length (take n l) = omega arith in
-      rw (drop-cons (take n l) i d k, getD-take n l i d h, add-one i)
-
-  ended : n ≤ i → drop i (take n l) ≡ []
-  ended h =
-      let e : length (take n l) ≡ n = length-take-le n l fits in
-      drop-of-length-le (take n l) {i = i} (omega arith)
-
   -- ---- the tests
 
   pub all-turn :
       (f : A → Bool) → i < n → (d : A) (b : Bool) → f (getD l i d) ≡ b → all f (drop i (take n l)) ≡ (b && all f (drop (i + 1) (take n l)))
   unfolding all
-  all-turn f h d b e = rw (turn d h, e)
+  all-turn f h d b e = rw (turn-used l n fits i d h, e)
 
   pub all-end : (f : A → Bool) → n ≤ i → all f (drop i (take n l)) ≡ true
   unfolding all
-  all-end f h = rw (ended h)
+  all-end f h = rw (ended-used l n fits i h)
 
 -- ---- the operations
 
@@ -50,11 +34,11 @@ module _ (at : List ℕ) (l : List Operation) (n : ℕ) (fits : n ≤ length l) 
   pub after-turn : (next : List ℕ) → i < n → (d : Operation) → next ≡ cellsBy at (getD l i d) cells (getD l i d .code) →
       cellsAfter at (drop i (take n l)) cells ≡ cellsAfter at (drop (i + 1) (take n l)) next
   unfolding cellsAfter
-  after-turn next h d e = rw (turn l n fits i d h, e)
+  after-turn next h d e = rw (turn-used l n fits i d h, e)
 
   pub after-end : n ≤ i → cellsAfter at (drop i (take n l)) cells ≡ cells
   unfolding cellsAfter
-  after-end h = rw (ended l n fits i h)
+  after-end h = rw (ended-used l n fits i h)
 
 -- ---- a seat's cells: a store of 0 in its row or column changes nothing of what `blank` gives, and where all of them are 0 `blank` is done
 

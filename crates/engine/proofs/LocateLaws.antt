@@ -4,12 +4,12 @@ use Prim.Native.Nat.{ℕ, zero, suc, _+_, _-_, _≤_, _<_}
 use mathlib.Core.Path.{_≡_, refl, sym, _∙_}
 use mathlib.Core.Bool.{Bool, true, false, cond, _&&_, _||_}
 use mathlib.Core.Option.{none, some}
-use mathlib.Core.List.{List, [], _∷_, _++_, map, append-nil}
+use mathlib.Core.List.{List, [], _∷_, _++_, append-nil}
 use native.Mathlib.Nat.{sub-zero, zero-sub, suc-sub-suc}
 use native.Mathlib.Numerals.{add-one}
 use native.Mathlib.Omega.{arith}
 use lib.Dec.{eqb, ltb, leb·suc-suc}
-use lib.ListN.{length, length-map, getD, take, drop, set, replicate, drop-of-length-le, take-append-drop, List·getD-eq-default}
+use lib.ListN.{length, getD, take, drop, set, replicate, drop-of-length-le, take-append-drop, List·getD-eq-default}
 use lib.Seq.{drop-cons, length-take-le, getD-take, take-suc-set, drop-set-lt, drop-drop, set-out, append-snoc}
 use mir.Syntax.{w16}
 use mir.Val.{Fits}
@@ -30,10 +30,6 @@ use Rattle.engine.specs.declared.locate.Spot.{Spot}
 use Rattle.engine.specs.declared.locate.Spot.the-variants as spot
 
 -- ---- lists
-
--- an array of structs stands in what is known as `map` of its elements
-pub long : (X Y : Type 0) (f : X → Y) (l : List X) (n : ℕ) → length (map f l) ≡ n → length l ≡ n
-long X Y f l n e = sym (length-map l f) ∙ e
 
 module _ {A : Type 0} (l : List A) (n : ℕ) (full : length l ≡ n) (i : ℕ) where
   pub turn : (d : A) → i < n → drop i l ≡ getD l i d ∷ drop (i + 1) l

@@ -5,7 +5,8 @@ use native.Mathlib.Omega.{arith}
 use lib.ListN.{length, take, drop}
 use borrow.Author.Needs.{needs}
 use Rattle.engine.specs.Plan.{cellsAfter}
-use Rattle.engine.proofs.CellLaws.{long, after-turn, after-end}
+use Rattle.accepted.proofs.Walks.{long}
+use Rattle.engine.proofs.CellLaws.{after-turn, after-end}
 use Rattle.engine.proofs.cells.change_all.Statement.{statement}
 use Rattle.engine.proofs.cells.change_all.Tie as tie
 

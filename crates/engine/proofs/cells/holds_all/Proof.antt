@@ -9,7 +9,8 @@ use borrow.Author.Tests.{not-true, not-false}
 use Rattle.model.specs.Check.{all}
 use Rattle.model.specs.declared.Test.{Test}
 use Rattle.engine.specs.Plan.{holdsAt}
-use Rattle.engine.proofs.CellLaws.{long, all-turn, all-end}
+use Rattle.accepted.proofs.Walks.{long}
+use Rattle.engine.proofs.CellLaws.{all-turn, all-end}
 use Rattle.engine.proofs.cells.holds_all.Statement.{statement}
 use Rattle.engine.proofs.cells.holds_all.Tie as tie
 

@@ -11,7 +11,7 @@ use denote.Struct.Declared.{row}
 use borrow.Author.Needs.{needs}
 use Rattle.request_bytes.specs.declared.Request.{Request}
 use Rattle.request_bytes.proofs.Request.{the-type}
-use Rattle.engine.proofs.CellLaws.{long}
+use Rattle.accepted.proofs.Walks.{long}
 use Rattle.engine.proofs.ListLaws.{obey-none, obey-some}
 use Rattle.engine.proofs.list.obey.Statement.{statement}
 use Rattle.engine.proofs.list.obey.Tie as tie

@@ -8,7 +8,8 @@ use lib.ListN.{length, getD, take, drop}
 use borrow.Author.Needs.{needs}
 use Rattle.model.specs.Scheme.{isNew, creates}
 use Rattle.accepted.specs.Answers.{bodyOf}
-use Rattle.engine.proofs.LocateLaws.{long, noOperation, creates-it, creates-another, creates-none, new-turn, new-end}
+use Rattle.accepted.proofs.Walks.{long}
+use Rattle.engine.proofs.LocateLaws.{noOperation, creates-it, creates-another, creates-none, new-turn, new-end}
 use Rattle.engine.proofs.locate.is_new.Statement.{statement}
 use Rattle.engine.proofs.locate.is_new.Tie as tie
 

@@ -7,7 +7,8 @@ use borrow.Author.Needs.{needs}
 use Rattle.accepted.specs.Answers.{typesOf, bodyOf}
 use Rattle.engine.specs.Code.{located}
 use Rattle.engine.specs.declared.locate.Spot.{Spot}
-use Rattle.engine.proofs.LocateLaws.{long, locatedFrom, spotAt, Blank, located-on, located-fault, located-end, blank-on}
+use Rattle.accepted.proofs.Walks.{long}
+use Rattle.engine.proofs.LocateLaws.{locatedFrom, spotAt, Blank, located-on, located-fault, located-end, blank-on}
 use Rattle.engine.proofs.locate.locate.Statement.{statement}
 use Rattle.engine.proofs.locate.locate.Tie as tie
 

@@ -7,7 +7,7 @@ use borrow.Author.Needs.{needs}
 use Rattle.engine.specs.Plan.{planAll}
 use Rattle.accepted.specs.Answers.{typesOf, bodyOf}
 use Rattle.engine.specs.Code.{planOf}
-use Rattle.engine.proofs.LocateLaws.{long}
+use Rattle.accepted.proofs.Walks.{long}
 use Rattle.engine.proofs.PlanCode.{plan-end, plan-on, plan-stop}
 use Rattle.engine.proofs.plan.plan_all.Statement.{statement}
 use Rattle.engine.proofs.plan.plan_all.Tie as tie

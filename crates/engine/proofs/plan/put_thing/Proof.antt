@@ -1,7 +1,8 @@
 -- Two stores at one seat; past the last seat neither list changes.
 use borrow.Author.Needs.{needs}
 use Rattle.model.specs.Seats.{putThing}
-use Rattle.engine.proofs.LocateLaws.{long, unset}
+use Rattle.accepted.proofs.Walks.{long}
+use Rattle.engine.proofs.LocateLaws.{unset}
 use Rattle.engine.proofs.plan.put_thing.Statement.{statement}
 use Rattle.engine.proofs.plan.put_thing.Tie as tie
 
