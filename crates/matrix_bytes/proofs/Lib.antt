@@ -5,6 +5,7 @@ pub mod Cells
 pub mod Stored
 pub mod Trips
 pub mod RoundTrips
+pub mod AcceptedTrip
 pub mod FieldReads
 pub mod ReadLaws
 pub mod OrderLaws
