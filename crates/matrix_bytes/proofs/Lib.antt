@@ -10,3 +10,4 @@ pub mod FieldReads
 pub mod ReadLaws
 pub mod OrderLaws
 pub mod WriteLaws
+pub mod FunctionTrips

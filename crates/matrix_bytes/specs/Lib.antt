@@ -6,3 +6,4 @@ pub mod Write
 pub mod Answers
 pub mod Seated
 pub mod Promises
+pub mod FunctionTrips

@@ -1,45 +1,23 @@
 -- The key example of the outline, and its starred results that speak of requests, results and cells, as one list of claims.
 -- Assumes nothing.
-use Prim.Native.Nat.{ℕ, _-_}
+use Prim.Native.Nat.{ℕ}
 use mathlib.Core.Bool.{Bool, true, false, _&&_}
-use mathlib.Core.List.{List, [], _∷_, _++_}
+use mathlib.Core.List.{List, [], _∷_}
 use lib.Dec.{eqb}
-use lib.ListN.{length, set, replicate}
+use lib.ListN.{set, replicate}
 use Rattle.rights.specs.Sets.{converted}
 use Rattle.rights.specs.declared.ThingType.{ThingType}
 use Rattle.model.specs.Check.{all, isSome}
 use Rattle.model.specs.Request.{Request, View, run, answers}
 use Rattle.model.specs.Papers.{State, papers}
 use Rattle.model.specs.Seats.{Matrix, seats, standsFor, noType}
+use Rattle.model.specs.Arrays.{type, test, operation, command, scheme}
 use Rattle.model.specs.declared.Test.{Test}
 use Rattle.model.specs.declared.Code.{Code}
 use Rattle.model.specs.declared.Code.the-variants.{Enter, Destroy}
 use Rattle.model.specs.declared.Operation.{Operation}
 use Rattle.model.specs.declared.Command.{Command}
 use Rattle.model.specs.declared.Scheme.{Scheme}
-
--- ---- lists as the arrays hold them
-abbrev pub type : ℕ → ThingType
-type t = record { 0 = t }
-
-abbrev pub test : Bool → ℕ → ℕ → ℕ → Test
-test present r i j = record { present = present; right = record { 0 = r }; row = record { 0 = i }; column = record { 0 = j } }
-
-abbrev pub operation : Code → ℕ → ℕ → ℕ → Operation
-operation code r i j = record { code = code; right = record { 0 = r }; row = record { 0 = i }; column = record { 0 = j } }
-
-abbrev pub command : List ThingType → List Test → List Operation → Command
-command ks ts os = record {
-  parameters = record { count = length ks; types = ks ++ replicate (8 - length ks) noType };
-  tests = record { count = length ts; list = ts ++ replicate (16 - length ts) (test false 0 0 0) };
-  operations = record { count = length os; list = os ++ replicate (32 - length os) (operation Enter 0 0 0) };
-}
-
-abbrev pub scheme : ℕ → ℕ → ℕ → List Command → Scheme
-scheme n m subjects cs = record {
-  head = record { rights = n; types = m; subjects = record { 0 = subjects }; count = length cs };
-  commands = cs ++ replicate (32 - length cs) (command [] [] []);
-}
 
 -- ---- rights: 0 own, 1 sign, 2 retired, 3 loaded; types: 0 manager, 1 key, 2 robot
 

@@ -1,10 +1,11 @@
--- What a customer has to believe, in the outline's order. `Scheme`, `Request`, `Papers`: the model. `Seats`: how it lies in memory.
+-- What a customer has to believe, in the outline's order. `Scheme`, `Request`, `Papers`: the model. `Seats`, `Arrays`: how it lies in memory.
 -- `Accepted`: what no reading refuses. `KeyExample`: the starred examples. `Promises`: what is proved of all this.
 pub mod Check
 pub mod Scheme
 pub mod Request
 pub mod Papers
 pub mod Seats
+pub mod Arrays
 pub mod Accepted
 pub mod KeyExample
 pub mod Promises

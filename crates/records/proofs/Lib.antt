@@ -9,3 +9,4 @@ pub mod RecordAt
 pub mod TripRecord
 pub mod Loop
 pub mod TripExample
+pub mod Wrote

@@ -1,3 +1,4 @@
 -- The laws of a request's definitions, and its round trips.
 pub mod Laws
 pub mod RoundTrips
+pub mod FunctionTrips

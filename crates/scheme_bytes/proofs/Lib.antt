@@ -7,3 +7,4 @@ pub mod AcceptedTrip
 pub mod FieldReads
 pub mod WriteLaws
 pub mod ReadLaws
+pub mod FunctionTrips

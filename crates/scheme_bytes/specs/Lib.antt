@@ -3,3 +3,4 @@ pub mod Read
 pub mod Write
 pub mod Answers
 pub mod Promises
+pub mod FunctionTrips

@@ -1,6 +1,6 @@
 //! Carries out one request, as literally as the outline says it: on a copy, which takes the matrix's place only at success.
 
-mod dense;
+pub mod dense;
 
 pub use dense::Dense;
 

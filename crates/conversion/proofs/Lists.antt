@@ -1,0 +1,67 @@
+-- Laws that more than one file of these proofs cites: few rights, lists with zeros behind, and a converted list of cells place by place.
+-- Assumes nothing.
+use Prim.Native.Nat.{ℕ, zero, suc, _+_, _-_, _*_, _/_, _%_, _≤_, _<_}
+use mathlib.Core.Path.{_≡_, refl, ap, _∙_}
+use mathlib.Core.Bool.{Bool, true, false, cond}
+use mathlib.Core.List.{List, [], _∷_, _++_}
+use native.Mathlib.Nat.{add-zero, add-suc, suc-add, zero-add, not-suc-le-zero, le-of-suc-le-suc}
+use native.Mathlib.Omega.{arith}
+use lib.Dec.{T, leb→le}
+use lib.ListN.{length, getD, replicate, length-append, length-replicate}
+use lib.Seq.{drop-append-seam}
+use borrow.Author.Tests.{eq-eqb}
+use Rattle.rights.specs.Sets.{converted}
+use Rattle.model.specs.Check.{all}
+use Rattle.model.specs.Accepted.{padded, standing}
+use Rattle.model.specs.declared.Head.{Head}
+use Rattle.model.specs.declared.Scheme.{Scheme}
+use Rattle.model.specs.declared.Things.{Things}
+use Rattle.model.proofs.Bools.{and-both, must-pass, first-pass, then-pass}
+use Rattle.conversion.specs.Conversion.{conversionFault, convertible, convertCells}
+
+-- ---- a scheme that can be converted
+
+pub few-rights : (s : Scheme) → T (convertible s) → s .head .rights ≤ 32
+unfolding convertible conversionFault
+few-rights s t = leb→le _ 32 (search (first-pass, then-pass, must-pass))
+
+-- what holds of both cases holds of either
+pub by-cond : {A : Type 0} (P : A → Type 0) (b : Bool) (u v : A) → (T b → P u) → P v → P (cond b u v)
+by-cond P true u v f p = f tt
+by-cond P false u v f p = p
+
+-- ---- zeros behind
+
+all-replicate : {A : Type 0} (f : A → Bool) (n : ℕ) (z : A) → T (f z) → T (all f (replicate n z))
+unfolding all
+all-replicate f zero z t = tt
+all-replicate f (suc n) z t = and-both (f z) _ t (all-replicate f n z t)
+
+-- a list with zeros behind it is an array of that list
+pub padded-list : {A : Type 0} (f : A → Bool) (many : ℕ) (l : List A) (z : A) → T (f z) → length l ≤ many →
+    T (padded f many (length l) (l ++ replicate (many - length l) z))
+unfolding padded
+padded-list f many l z t h =
+    let e : length (l ++ replicate (many - length l) z) ≡ many = simp (length-append, length-replicate) (omega arith) in
+    rw (drop-append-seam, eq-eqb _ many e) (all-replicate f (many - length l) z t)
+
+-- ---- cells
+
+pub length-cells : (h : Head) (th : Things) (k : ℕ) (l : List ℕ) → length (convertCells h th k l) ≡ length l
+unfolding convertCells
+length-cells h th k [] = refl
+length-cells h th k (c ∷ cs) = ap suc (length-cells h th (suc k) cs)
+
+cells-from : (h : Head) (th : Things) (k : ℕ) (l : List ℕ) (i : ℕ) → i < length l →
+    getD (convertCells h th k l) i 0 ≡ cond (standing h th ((k + i) / 48) ((k + i) % 48)) (converted (h .rights) (getD l i 0)) (getD l i 0)
+unfolding convertCells
+cells-from h th k [] i lt = absurd (not-suc-le-zero lt)
+cells-from h th k (c ∷ cs) zero lt = rw (add-zero k)
+cells-from h th k (c ∷ cs) (suc i) lt = cells-from h th (suc k) cs i (le-of-suc-le-suc lt) ∙ rw (suc-add k i, add-suc k i)
+
+pub cells-at : (h : Head) (th : Things) (l : List ℕ) (i j : ℕ) → j < 48 → i * 48 + j < length l →
+    getD (convertCells h th 0 l) (i * 48 + j) 0 ≡ cond (standing h th i j) (converted (h .rights) (getD l (i * 48 + j) 0)) (getD l (i * 48 + j) 0)
+cells-at h th l i j lj lt =
+    let ei : (i * 48 + j) / 48 ≡ i = omega arith in
+    let ej : (i * 48 + j) % 48 ≡ j = omega arith in
+    cells-from h th 0 l (i * 48 + j) lt ∙ rw (zero-add (i * 48 + j), ei, ej)

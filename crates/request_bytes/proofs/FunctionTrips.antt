@@ -1,0 +1,120 @@
+-- What `FunctionTrips` states of requests: the round trips of their bytes, behind the tests that the functions make around them.
+-- Assumes nothing.
+use Prim.Native.Nat.{ℕ, _+_, _-_, _≤_}
+use native.Mathlib.Omega.{arith}
+use mathlib.Core.Bool.{Bool, true, false, cond}
+use mathlib.Core.List.{List, [], _∷_, _++_}
+use mathlib.Core.Path.{_≡_, refl, sym, ap, _∙_}
+use lib.Dec.{leb, eqb}
+use lib.ListN.{length, take, drop, replicate, length-append, length-take, length-drop, take-append-drop}
+use lib.Seq.{take-append-seam, take-at, take-take, length-take-le}
+use borrow.Author.Tests.{le-leb, leb-true, ne-eqb}
+use Rattle.records.specs.Bytes.{part}
+use Rattle.records.specs.Reading.{Read, got, fault, byte, field, number, steps}
+use Rattle.records.specs.Front.{Refusal}
+use Rattle.records.specs.Writing.{placed, writeBytes}
+use Rattle.records.specs.declared.Writing.{Writing}
+use Rattle.records.specs.declared.Writing.the-variants as writing
+use Rattle.records.proofs.FieldLaws.{apart}
+use Rattle.records.proofs.PlacedLaws.{take-through-placed}
+use Rattle.records.proofs.Trip.{Bytes, body, bind-got, got-value, trip-steps}
+use Rattle.records.proofs.TripFields.{trip-byte, trip-field, trip-number}
+use Rattle.records.proofs.TripRecord.{bytes-part, in-record-back}
+use Rattle.request_bytes.specs.FunctionTrips.{FunctionTrips}
+use Rattle.request_bytes.specs.Read.{idsOf, requestOf, request, requestAt, noRequest, asRequest, readRequest}
+use Rattle.request_bytes.specs.Write.{requestBytes, writeRequest}
+use Rattle.request_bytes.specs.declared.Request.{Request}
+use Rattle.request_bytes.specs.declared.RequestAnswer.{RequestAnswer}
+use Rattle.request_bytes.specs.declared.RequestReading.the-variants.{Done, End}
+use Rattle.request_bytes.proofs.Laws.{length-request}
+use Rattle.request_bytes.proofs.RoundTrips.{round-trips}
+
+-- ---- written, then read
+
+-- a writing that was done had room, and placed the bytes
+record Wrote (out : List ℕ) (at : ℕ) (vs : List ℕ) (next : ℕ) (left : List ℕ) : Type 0 where
+  pub room : at + length vs ≤ length out
+  pub behind : next ≡ at + length vs
+  pub stands : left ≡ placed out at vs
+
+pair-eq : {x y : Writing} {l m : List ℕ} → _≡_ {A = Writing × List ℕ} (x, l) (y, m) → (x ≡ y) × (l ≡ m)
+pair-eq e = (ap (λ (p : Writing × List ℕ). p .0) e, ap (λ (p : Writing × List ℕ). p .1) e)
+
+wrote : (may : Bool) (out : List ℕ) (at : ℕ) (vs : List ℕ) (next : ℕ) (left : List ℕ) →
+    _≡_ {A = Writing × List ℕ} (cond may (writeBytes out at vs) (writing.Refused 4, out)) (writing.Done next, left) → (may ≡ true) × Wrote out at vs next left
+unfolding writeBytes
+wrote true out at vs next left e = (refl, go (leb (at + length vs) (length out)) refl e)
+  where
+    go : (b : Bool) → leb (at + length vs) (length out) ≡ b →
+        _≡_ {A = Writing × List ℕ} (cond b (writing.Done (at + length vs), placed out at vs) (writing.Refused 9, out)) (writing.Done next, left) →
+        Wrote out at vs next left
+    go true f e = let (p, d) = pair-eq e in record { room = leb-true _ _ f; behind = cc; stands = sym d }
+    go false f e = let (p, d) = pair-eq e in apart (cc)
+wrote false out at vs next left e = let (p, d) = pair-eq e in apart (cc)
+
+-- what begins as the buffer does holds the bytes too: placing them there changes nothing
+module _ {out : List ℕ} {at : ℕ} {vs : List ℕ} {next : ℕ} {left : List ℕ} (w : Wrote out at vs next left) (bytes : List ℕ)
+    (h : take next bytes ≡ take next left) where
+  front : take next bytes ≡ take at out ++ vs
+  front = h ∙ rw (w .stands, w .behind) (take-through-placed out at vs (w .room))
+
+  before : length (take at out) ≡ at
+  before = length-take-le at out (omega (arith, w .room))
+
+  long : next ≤ length bytes
+  long = omega (arith, w .behind, before, length-append (take at out) vs, ap length front, length-take next bytes)
+
+  again : placed bytes at vs ≡ bytes
+  unfolding placed
+  again =
+      let e : take at bytes ≡ take at out = sym (take-take at next bytes (omega (arith, w .behind))) ∙ rw front (take-at (take at out) vs at before) in
+      rw (e, ← front, ← (w .behind)) (take-append-drop next bytes)
+
+-- ---- read, then written
+read-got : (end : Bool) (r : Read ℕ Refusal Request) (next : ℕ) (q : Request) →
+    cond end (record { answer = End; request = noRequest }) (asRequest r) ≡ record { answer = Done next; request = q } → r ≡ got q next
+read-got true r next q e = let b = ap (λ (x : RequestAnswer). x .answer) e in apart (cc)
+read-got false (got p n) next q e =
+    let a : p ≡ q = ap (λ (x : RequestAnswer). x .request) e in
+    let b = ap (λ (x : RequestAnswer). x .answer) e in
+    let c : n ≡ next = cc in rw (a, c)
+read-got false (fault f) next q e = let b = ap (λ (x : RequestAnswer). x .answer) e in apart (cc)
+
+-- no more ids are read than the body may count
+few-ids : (b : List ℕ) (q : Request) → Bytes b → request b ≡ got q [] → length (idsOf q) ≤ 8
+unfolding request requestOf
+few-ids b q g e =
+    let (command, i, e1, f1) = bind-got (byte b) _ e in
+    let g1 = body .kept (command ∷ []) (trip-byte .back b i command g e1 .0) g in
+    let (count, j, e2, f2) = bind-got (field 0 9 4 i) _ f1 in
+    let (s2, few) = trip-field 0 9 4 .back i j count g1 e2 in
+    let g2 = body .kept (count ∷ []) s2 g1 in
+    let (ids, k, e3, f3) = bind-got (steps (λ (u : Unit {0}). number 2) (λ u x. u) count tt j) _ f2 in
+    let (s3, all) = trip-steps (λ u. trip-number 2) (λ (u : Unit {0}) x. u) count tt .back j k ids g2 e3 in
+    let n : q .count ≡ length ids = sym (ap (λ (x : Request). x .count) (got-value f3)) in
+    omega (arith, length-take (q .count) (q .ids), few .1, all .1, n)
+
+-- ---- both
+pub function-trips : FunctionTrips
+unfolding part requestOf requestAt readRequest writeRequest writeBytes
+function-trips = record {
+  written = λ out at command ids next left c low e.
+      let (few, w) = wrote (leb (length ids) 8) out at (requestBytes command ids) next left e in (
+        take-append-seam ids (replicate (8 - length ids) 0),
+        λ bytes h.
+            let l = long w bytes h in
+            let n : at ≡ length bytes → ⊥ = λ z. omega (arith, w .behind, length-request command ids) in
+            let t = round-trips .there bytes at command ids c (leb-true _ _ few) low (omega (arith, w .behind)) in
+            rw (ne-eqb _ _ n, rw (again w bytes h, ← (w .behind)) at t),
+      );
+  read = λ bytes at next q g e.
+      let r = read-got (eqb at (length bytes)) (requestAt bytes at) next q e in
+      let (kind, start, len, f, d, n) = in-record-back bytes 64 (λ kind. request) at r in
+      let few = few-ids (part bytes start len) q (bytes-part bytes start len g) d in
+      let size : length (take (next - at) (drop at bytes)) ≡ next - at =
+      length-take-le (next - at) (drop at bytes) (omega (arith, length-drop at bytes, f .inside, f .behind)) in (
+        omega (arith, f .behind),
+        omega (arith, f .inside),
+        λ out to room. rw (le-leb _ _ few, ← (round-trips .back bytes at next q g r .0), size, le-leb _ _ room),
+      );
+}
