@@ -117,7 +117,7 @@ fn scheme_case(label: &[u8], bytes: [u8; 64], n: usize) {
 }
 
 fn scheme_written(label: &[u8], s: Scheme, out: &mut [u8]) {
-    let answer = scheme_bytes::write_scheme(out, s);
+    let answer = scheme_write::write_scheme(out, s);
     print_writing(label, answer);
 }
 

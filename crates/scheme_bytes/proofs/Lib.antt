@@ -5,6 +5,5 @@ pub mod CommandTrip
 pub mod RoundTrips
 pub mod AcceptedTrip
 pub mod FieldReads
-pub mod WriteLaws
 pub mod ReadLaws
 pub mod FunctionTrips

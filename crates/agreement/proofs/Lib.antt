@@ -1,0 +1,4 @@
+-- The proofs of what `Agreement` and `Starred` state; `Told` is a law of refusals that the first cites.
+pub mod Told
+pub mod Agreement
+pub mod Starred

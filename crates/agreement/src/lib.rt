@@ -1,0 +1,1 @@
+// A theorem only: what the contracts of reading, converting and running give together.

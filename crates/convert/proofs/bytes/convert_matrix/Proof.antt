@@ -1,0 +1,71 @@
+-- The cells are copied and converted; the converted matrix is accepted, so nothing but room can refuse its writing.
+use borrow.Author.Needs.{needs}
+use Rattle.conversion.proofs.Converted.{converts}
+use Rattle.convert.proofs.AnswerLaws.{matrix-27, matrix-refused, matrix-done}
+use Rattle.convert.proofs.bytes.convert_matrix.Statement.{statement}
+use Rattle.convert.proofs.bytes.convert_matrix.Tie as tie
+
+returns : tie.Need-returns
+returns c = matrix-27 _ _ _ (c .if1 .taken)
+
+slice-aggregate-copy-cells : tie.Need-slice-aggregate-copy-cells
+slice-aggregate-copy-cells c = search needs
+
+copy-cells-requires : tie.Need-copy-cells-requires
+copy-cells-requires c κs = search needs
+
+slice-aggregate-converted-cells : tie.Need-slice-aggregate-converted-cells
+slice-aggregate-converted-cells c = search needs
+
+converted-cells-requires : tie.Need-converted-cells-requires
+converted-cells-requires c κs = search needs
+
+enum-known-x : tie.Need-enum-known-x
+enum-known-x c = search needs
+
+enum-told : tie.Need-enum-told
+enum-told c = search needs
+
+converted-scheme-requires : tie.Need-converted-scheme-requires
+converted-scheme-requires c κs = search needs
+
+slice-aggregate-write-matrix : tie.Need-slice-aggregate-write-matrix
+slice-aggregate-write-matrix c = search needs
+
+write-matrix-requires : tie.Need-write-matrix-requires
+write-matrix-requires c κs = search needs
+
+returns-2 : tie.Need-returns-2
+returns-2 c =
+    let k = c .before .before .before .before in
+    matrix-refused _ _ _ _ (k .before .before .before .copy-cells .ensures) _ _ (k .converted-cells .ensures) _ (c .before .x .given .1)
+
+same-length : tie.Need-same-length
+same-length c = search needs
+
+returns-3 : tie.Need-returns-3
+returns-3 c =
+    let w = c .before .before in
+    let r = w .before .before .before .before in
+    let t = r .before in
+    let k = t .before .before .before in
+    matrix-done _ _ _ _ (k .before .before .before .copy-cells .ensures) _ _ (k .converted-cells .ensures) converts (t .enum-told .given .1) _
+    (r .converted-scheme .ensures) _ _ (w .write-matrix .ensures)
+
+pub convert-matrix-spec : {M : Type 1} → statement M
+convert-matrix-spec =
+    tie.close
+    (tie.spec
+    returns
+    slice-aggregate-copy-cells
+    copy-cells-requires
+    slice-aggregate-converted-cells
+    converted-cells-requires
+    enum-known-x
+    enum-told
+    converted-scheme-requires
+    slice-aggregate-write-matrix
+    write-matrix-requires
+    returns-2
+    same-length
+    returns-3)

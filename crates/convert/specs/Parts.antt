@@ -1,0 +1,49 @@
+-- What the private functions of `convert` promise of a command's parts.
+-- Assumes nothing.
+use Prim.Native.Nat.{_-_, _≤_}
+use mathlib.Core.Bool.{Bool, false}
+use mathlib.Core.List.{List, _++_}
+use lib.Dec.{T}
+use lib.ListN.{length, replicate}
+use Rattle.model.specs.Check.{all}
+use Rattle.model.specs.Scheme.{operationsOf}
+use Rattle.model.specs.Arrays.{test, operation}
+use Rattle.model.specs.Accepted.{zeroTest, padded, paddedCommand}
+use Rattle.model.specs.declared.Test.{Test}
+use Rattle.model.specs.declared.Tests.{Tests}
+use Rattle.model.specs.declared.Code.{Code}
+use Rattle.model.specs.declared.Code.the-variants.{Enter, Delete, Create, Destroy}
+use Rattle.model.specs.declared.Operation.{Operation}
+use Rattle.model.specs.declared.Operations.{Operations}
+use Rattle.model.specs.declared.Command.{Command}
+use Rattle.conversion.specs.Conversion.{keepsThings}
+
+-- the two arrays of `command`, each for itself
+abbrev pub testsFrom : List Test → Tests
+testsFrom ts = record { count = length ts; list = ts ++ replicate (16 - length ts) (test false 0 0 0) }
+
+abbrev pub operationsFrom : List Operation → Operations
+operationsFrom os = record { count = length os; list = os ++ replicate (32 - length os) (operation Enter 0 0 0) }
+
+-- the tests of a padded command
+abbrev pub paddedTests : Tests → Bool
+paddedTests t = padded zeroTest 16 (t .count) (t .list)
+
+-- neither creates nor destroys
+abbrev pub keepsAll : List Operation → Bool
+keepsAll os = all (λ o. keepsThings (o .code)) os
+
+-- what is done to the partner; a create and a destroy have none
+abbrev pub oppositeOf : Code → Code
+oppositeOf Enter = Delete
+oppositeOf Delete = Enter
+oppositeOf Create = Create
+oppositeOf Destroy = Destroy
+
+-- a command of an accepted scheme that converts
+pub record Convertible (c : Command) : Type 0 where
+  pub padding : T (paddedCommand c)
+  pub parameters : c .parameters .count ≤ 8
+  pub tests : c .tests .count ≤ 16
+  pub operations : c .operations .count ≤ 16
+  pub keeps : T (keepsAll (operationsOf c))

@@ -1,0 +1,55 @@
+// The converted scheme's and the converted matrix's bytes, from the start of a lent buffer on.
+use crate::answers::Conversion;
+use crate::matrix::converted_cells;
+use crate::scheme::converted_scheme;
+use model::Scheme;
+use model::Things;
+use records::Writing;
+ghost use mathlib.Core.Path.{_≡_};
+ghost use mathlib.Core.List.{List};
+ghost use Prim.Native.Nat.{ℕ};
+ghost use lib.ListN.{length};
+ghost use Rattle.convert.specs.Convert.{convertSchemeInto, convertMatrixInto};
+
+// 27, then 20, 21, 22, then 9.
+pub fn convert_scheme(out: &mut [u8], s: Scheme) -> Writing
+    ensures { λ r. ⌜ _≡_ {A = Writing × List ℕ} (r, now (out .exit)) (convertSchemeInto (now (out .entry)) s) ⌝ }
+{
+    let converted = converted_scheme(s);
+    let answer = converted.answer;
+    let robot = converted.scheme;
+    match answer {
+        Conversion::Refused(x) => Writing::Refused { number: x },
+        Conversion::Done => scheme_write::write_scheme(out, robot),
+    }
+}
+
+fn copy_cells(to: &mut [u64], from: &[u64])
+    requires { ⌜ (length (now to) ≡ 2304) × (length (now from) ≡ 2304) ⌝ }
+    ensures { λ _. ⌜ now (to .exit) ≡ now (from .entry) ⌝ }
+{
+    let mut k: usize = 0;
+    while k < 2304 {
+        to[k] = from[k];
+        k += 1;
+    }
+}
+
+// 27, then 20, 21, 22 of the scheme, then 9.
+pub fn convert_matrix(out: &mut [u8], s: Scheme, th: Things, cells: &[u64]) -> Writing
+    ensures { λ r. ⌜ _≡_ {A = Writing × List ℕ} (r, now (out .exit)) (convertMatrixInto (now (out .entry)) s (record { things = th; cells = now (cells .entry) })) ⌝ }
+{
+    if cells.len() != 2304 {
+        return Writing::Refused { number: 27 };
+    }
+    let mut copy = [0u64; 2304];
+    copy_cells(&mut copy, cells);
+    match converted_cells(s, th, &mut copy) {
+        Conversion::Refused(x) => Writing::Refused { number: x },
+        Conversion::Done => {
+            let converted = converted_scheme(s);
+            let robot = converted.scheme;
+            matrix_bytes::write_matrix(out, robot, th, &copy)
+        }
+    }
+}
