@@ -11,7 +11,10 @@ partner-requires : tie.Need-partner-requires
 partner-requires c κs = search needs
 
 returns-2 : tie.Need-returns-2
-returns-2 c = let s = c .before .before .before .before in test-absent _ (s .before .args .t) (s .if1 .left) _ (c .partner .ensures)
+returns-2 c =
+    let s = c .before .before .before .before in
+    let a = s .before .args in
+    test-absent (a .n) (a .t) (s .if1 .left) _ (c .partner .ensures)
 
 pub convert-test-spec : {M : Type 1} → statement M
 convert-test-spec = tie.close (tie.spec returns partner-requires returns-2)
