@@ -4,78 +4,73 @@ use Prim.Native.Nat.{ℕ, zero, suc, _+_, _≤_, _<_}
 use native.Mathlib.Omega.{arith}
 use native.Mathlib.Nat.{zero-add, add-zero}
 use mathlib.Core.Path.{_≡_, refl, sym, ap, _∙_}
-use mathlib.Core.Bool.{Bool, true, false, cond}
-use mathlib.Core.Option.{none, some}
+use mathlib.Core.Bool.{Bool, true, false, _&&_}
+use mathlib.Core.Logic.{⊎-elim}
 use mathlib.Core.List.{List, [], _∷_, _++_, append-nil, append-assoc}
-use lib.Dec.{T, ltb}
+use lib.Dec.{T}
 use lib.ListN.{length, getD, set, length-append}
 use lib.Seq.{sets, length-sets}
-use borrow.Author.Tests.{lt-ltb, le-ltb, ltb-true, ltb-false, le-leb, lt-leb}
-use Rattle.model.specs.Request.{Outcome, done, refused, number, after, carryOut, carryOutIf, step, run, answers}
+use types.Run.{OneOf}
+use denote.Enum.Declared.{tagOf}
+use borrow.Author.Tests.{le-leb, lt-leb}
+use Rattle.model.specs.Request.{Request, Outcome, done, refused, number, after, carryOut, step, run, answers}
 use Rattle.model.specs.Seats.{Matrix, seats}
 use Rattle.model.specs.Accepted.{acceptedScheme, acceptedMatrix}
 use Rattle.model.specs.declared.Command.{Command}
 use Rattle.model.specs.declared.Scheme.{Scheme}
-use Rattle.model.proofs.Bools.{is-true}
 use Rattle.model.proofs.Joined.{kept}
 use Rattle.records.specs.Bytes.{part}
-use Rattle.records.specs.Reading.{Read, got, fault, _>>=_, _>>_, steps, byte, field, number as numeral, whole, end, asField}
+use Rattle.records.specs.Reading.{Read, got, fault, _>>=_, _>>_, steps, byte, field, number as numeral, whole, end}
 use Rattle.records.specs.Reading.{done as give}
 use Rattle.records.specs.Front.{recordAt, onBody}
-use Rattle.records.specs.Writing.{placed}
 use Rattle.records.specs.declared.RecordAnswer.{RecordAnswer}
 use Rattle.records.specs.declared.RecordAnswer.the-variants as record-answer
 use Rattle.records.specs.declared.Reading.{Reading}
 use Rattle.records.specs.declared.Reading.the-variants as reading
 use Rattle.records.proofs.BytesLaws.{sets-append}
-use Rattle.records.proofs.FieldLaws.{apart, field-between}
+use Rattle.records.proofs.FieldLaws.{apart}
 use Rattle.records.proofs.FrontLaws.{record-found}
 use Rattle.records.proofs.PlacedLaws.{placed-sets}
 use Rattle.records.proofs.Trip.{got-value, bind-got}
 use Rattle.request_bytes.specs.Read.{idsOf, request, requestOf, asRequest, readRequest}
 use Rattle.request_bytes.specs.declared.Request.{Request as Form}
+use Rattle.request_bytes.specs.declared.RequestReading.{RequestReading}
 use Rattle.request_bytes.specs.declared.RequestReading.the-variants as request-reading
 use Rattle.request_bytes.specs.declared.RequestAnswer.{RequestAnswer}
 use Rattle.request_bytes.proofs.Laws.{read-end, read-refused, read-record}
+use Rattle.request_bytes.proofs.RequestReading.{the-type}
 use Rattle.engine.specs.Step.{numberOf, answered}
-use Rattle.engine.specs.Plan.{Ready}
-use Rattle.engine.specs.List.{Listed, asked, onAnswer, listFrom, listOf, runAnswer, Result, runOn}
+use Rattle.engine.specs.List.{Listed, asked, onAnswer, listFrom, listOf, runAnswer, endedBy, Result, runOn, ranOn, runQuietly}
 use Rattle.engine.specs.declared.answers.Ran.{Ran}
 use Rattle.engine.specs.declared.answers.RunAnswer.{RunAnswer}
-use Rattle.engine.specs.declared.answers.RunAnswer.the-variants.{Whole, Bad, Refused}
+use Rattle.engine.specs.declared.answers.RunAnswer.the-variants.{Whole, Refused}
 use Rattle.engine.specs.declared.answers.Stepped.{Stepped}
-use Rattle.engine.proofs.StepLaws.{refusedWith, no-command, few-commands, command-ready, command-step}
+use Rattle.engine.proofs.StepLaws.{refusedWith, no-command, command-step}
 
--- ---- a request that was read: it takes some bytes, and has up to 8 ids
+-- ---- a request that was read: it takes some bytes, and its array holds its ids
 
 abbrev idsIn : ℕ → List ℕ → Read (List ℕ) ℕ (List ℕ)
 idsIn n = steps (λ (u : Unit {0}). numeral 2) (λ u x. u) n tt
 
-length-ids : (n : ℕ) (b t ids : List ℕ) → idsIn n b ≡ got ids t → length ids ≡ n
-length-ids zero b t ids e = ap length (sym (got-value {a = []} e))
-length-ids (suc n) b t ids e =
-    let m = bind-got (numeral 2 b) (λ a. idsIn n >>= λ ys. give (a ∷ ys)) e in
-    let d = bind-got (idsIn n (m .1)) (λ ys. give (m .0 ∷ ys)) (m .3) in
-    ap length (sym (got-value {a = m .0 ∷ d .0} (d .3))) ∙ ap suc (length-ids n (m .1) (d .1) (d .0) (d .2))
+ids-held : (command : ℕ) (ids : List ℕ) → requestOf command ids .count ≤ length (requestOf command ids .ids)
+unfolding requestOf
+ids-held command ids = simp length-append (omega arith)
 
-few-ids : (b : List ℕ) (q : Form) (t : List ℕ) → whole request b ≡ got q t → q .count ≤ 8
-unfolding whole request requestOf
-few-ids b q t e =
+whole-held : (b : List ℕ) (q : Form) (t : List ℕ) → whole request b ≡ got q t → q .count ≤ length (q .ids)
+unfolding whole request
+whole-held b q t e =
     let w = bind-got (request b) (λ a. end >> give a) e in
     let x = bind-got (end (w .1)) (λ u. give (w .0)) (w .3) in
     let a = bind-got (byte b) (λ command. field 0 9 4 >>= λ count. idsIn count >>= λ ids. give (requestOf command ids)) (w .2) in
     let f = bind-got (field 0 9 4 (a .1)) (λ count. idsIn count >>= λ ids. give (requestOf (a .0) ids)) (a .3) in
     let i = bind-got (idsIn (f .0) (f .1)) (λ ids. give (requestOf (a .0) ids)) (f .3) in
-    let l : length (i .0) ≡ f .0 = length-ids (f .0) (f .1) (i .1) (i .0) (i .2) in
-    let v = field-between (a .1) 0 9 4 (f .0) (ap asField (f .2)) in
     let r : requestOf (a .0) (i .0) ≡ q = got-value {a = requestOf (a .0) (i .0)} (i .3) ∙ got-value {a = w .0} (x .3) in
-    let n : length (i .0) ≡ q .count = ap (λ (u : Form). u .count) r in
-    omega (arith, v)
+    rw r at (ids-held (a .0) (i .0))
 
 pub record Taken (bytes : List ℕ) (p next : ℕ) (q : Form) : Type 0 where
   pub on : p + 4 ≤ next
   pub inside : next ≤ length bytes
-  pub few : q .count ≤ 8
+  pub held : q .count ≤ length (q .ids)
 
 module _ (bytes : List ℕ) (p : ℕ) (more : p < length bytes) (a : RequestAnswer) (is : a ≡ readRequest bytes p)
     (next : ℕ) (on : a .answer ≡ request-reading.Done next) where
@@ -85,7 +80,7 @@ module _ (bytes : List ℕ) (p : ℕ) (more : p < length bytes) (a : RequestAnsw
       let g : request-reading.Done (start + len) ≡ request-reading.Done next = ap (λ (x : RequestAnswer). x .answer) r ∙ on in
       let n : start + len ≡ next = cc in
       let found = record-found bytes p 64 kind start len e in
-      record { on = omega arith; inside = omega arith; few = rw (← r) (few-ids _ q t f) }
+      record { on = omega arith; inside = omega arith; held = rw (← r) (whole-held _ q t f) }
   body-taken kind start len e (fault k) f r =
       let g : request-reading.Refused k p ≡ request-reading.Done next = ap (λ (x : RequestAnswer). x .answer) r ∙ on in apart (cc)
 
@@ -112,6 +107,10 @@ pub counting-start : (bytes : List ℕ) → Counting bytes 0 0 (listOf bytes)
 unfolding listOf
 counting-start bytes = record { fuel = length bytes; enough = omega arith; inside = omega arith; few = omega arith; is = refl; total = omega arith }
 
+-- a reading that gave no request, by its variant's number
+abbrev pub Stops : RequestReading → Type 0
+Stops r = OneOf (1 ∷ 2 ∷ []) (tagOf the-type r)
+
 abbrev ended : Reading → Listed
 ended e = record { requests = []; ending = e }
 
@@ -131,11 +130,16 @@ module _ {bytes : List ℕ} {n p : ℕ} {l : Listed} (c : Counting bytes n p l) 
     opened zero h e = absurd (omega arith)
     opened (suc fuel) h e = (fuel, h, sym e ∙ ap (λ (x : RequestAnswer). onAnswer p (x .request) (listFrom fuel bytes) (x .answer)) (sym is))
 
-    pub counting-end : a .answer ≡ request-reading.End → l ≡ ended (reading.Done p)
+    counting-end : a .answer ≡ request-reading.End → l ≡ ended (reading.Done p)
     counting-end e = let (fuel, h, f) = opened (c .fuel) (c .enough) (c .is) in f ∙ ap (onAnswer p (a .request) (listFrom fuel bytes)) e
 
-    pub counting-refused : (k q : ℕ) → a .answer ≡ request-reading.Refused k q → l ≡ ended (reading.Refused k q)
+    counting-refused : (k q : ℕ) → a .answer ≡ request-reading.Refused k q → l ≡ ended (reading.Refused k q)
     counting-refused k q e = let (fuel, h, f) = opened (c .fuel) (c .enough) (c .is) in f ∙ ap (onAnswer p (a .request) (listFrom fuel bytes)) e
+
+    pub counting-stop : (r : RequestReading) → r ≡ a .answer → Stops r → (e : Reading) × (l ≡ ended e) × (endedBy n r ≡ runAnswer n e)
+    counting-stop (request-reading.Done next) e h = absurd (⊎-elim (λ z. omega arith) (λ z. omega arith) h)
+    counting-stop request-reading.End e h = (reading.Done p, counting-end (sym e), refl)
+    counting-stop (request-reading.Refused k q) e h = (reading.Refused k q, counting-refused k q (sym e), refl)
 
     pub counting-on : (next : ℕ) → a .answer ≡ request-reading.Done next →
         (rest : Listed) × Counting bytes (n + 1) next rest × (l ≡ record { requests = asked (a .request) ∷ rest .requests; ending = rest .ending })
@@ -156,51 +160,10 @@ module _ {bytes : List ℕ} {n p : ℕ} {l : Listed} (c : Counting bytes n p l) 
   pub counted-none : length bytes ≤ p → n ≡ length (listOf bytes .requests)
   counted-none h = counted _ (counting-none h)
 
-  module _ (more : p < length bytes) (a : RequestAnswer) (is : a ≡ readRequest bytes p) where
-    pub counted-end : a .answer ≡ request-reading.End → n ≡ length (listOf bytes .requests)
-    counted-end e = counted _ (counting-end more a is e)
+  pub counted-stop : p < length bytes → (r : RequestReading) → r ≡ readRequest bytes p .answer → Stops r → n ≡ length (listOf bytes .requests)
+  counted-stop more r e h = let (ending, l, f) = counting-stop more _ refl r e h in counted ending l
 
-    pub counted-refused : (k q : ℕ) → a .answer ≡ request-reading.Refused k q → n ≡ length (listOf bytes .requests)
-    counted-refused k q e = counted _ (counting-refused more a is k q e)
-
--- ---- the command of a request that was read, and what its step gives
-
-module _ (s : Scheme) (ok : T (acceptedScheme s)) (m : Matrix) (q : Form) (i : ℕ) (is : i ≡ cond (ltb (q .command) (s .head .count)) (q .command) 0)
-    (d : Command) where
-  abbrev count : ℕ
-  count = s .head .count
-
-  pub obey-ready : T (acceptedMatrix (s .head) m) → q .command < count → Ready (getD (s .commands) i d) m
-  obey-ready of h = rw (is, lt-ltb (q .command) count h) (command-ready s ok m (q .command) h d of)
-
-  obeyed-by : (now : Stepped × List ℕ) (b : Bool) → ltb (q .command) count ≡ b
-      → now ≡ answered m (carryOutIf seats m (idsOf q) (cond b (some (getD (s .commands) (cond b (q .command) 0) d)) none))
-      → now ≡ answered m (step seats s m (asked q))
-  unfolding carryOutIf
-  obeyed-by now true f e = command-step s ok m (q .command) (ltb-true _ _ f) d (idsOf q) now e
-  obeyed-by now false f e = e ∙ no-command s m (q .command) (idsOf q) (ltb-false _ _ f) (refusedWith 10 (m .things)) refl
-
-  pub obeyed : (now : Stepped × List ℕ)
-      → now ≡ answered m (carryOutIf seats m (idsOf q) (cond (ltb (q .command) count) (some (getD (s .commands) i d)) none))
-      → now ≡ answered m (step seats s m (asked q))
-  obeyed now e = obeyed-by now (ltb (q .command) count) refl (rw is at e)
-
-near : (k n i : ℕ) (b : Bool) → ltb k n ≡ b → n ≤ 32 → i ≡ cond b k 0 → i < 32
-near k n i true e h f = omega (arith, ltb-true k n e)
-near k n i false e h f = omega arith
-
-pub place-near : (s : Scheme) → T (acceptedScheme s) → (k i : ℕ) → i ≡ cond (ltb k (s .head .count)) k 0 → i < 32
-place-near s ok k i e = near k (s .head .count) i (ltb k (s .head .count)) refl (few-commands s ok) e
-
-pub obey-none : (count : ℕ) (c : Command) (m : Matrix) (q : Form) → count ≤ q .command → (r : Stepped) → r ≡ refusedWith 10 (m .things)
-    → _≡_ {A = Stepped × List ℕ} (r, m .cells) (answered m (carryOutIf seats m (idsOf q) (cond (ltb (q .command) count) (some c) none)))
-unfolding carryOutIf
-obey-none count c m q h r e = rw (le-ltb (q .command) count h, e)
-
-pub obey-some : (count : ℕ) (c : Command) (m : Matrix) (q : Form) → q .command < count → (now : Stepped × List ℕ)
-    → now ≡ answered m (carryOut seats m (idsOf q) c) → now ≡ answered m (carryOutIf seats m (idsOf q) (cond (ltb (q .command) count) (some c) none))
-unfolding carryOutIf
-obey-some count c m q h now e = rw (lt-ltb (q .command) count h) e
+-- ---- what the step of a request that was read gives
 
 abbrev matrixOf : Stepped × List ℕ → Matrix
 matrixOf (r, cells) = record { things = r .things; cells = cells }
@@ -216,6 +179,24 @@ answered-after : (m : Matrix) (o : Outcome Matrix) (r : Stepped) (cells : List �
 unfolding after
 answered-after m (done next) r cells e = ap matrixOf e
 answered-after m (refused k) r cells e = ap matrixOf e
+
+-- the number told and the matrix left are the step's
+pub record Turned (s : Scheme) (m : Matrix) (q : Form) (v : ℕ) (next : Matrix) : Type 0 where
+  pub told : v ≡ number (step seats s m (asked q))
+  pub left : next ≡ after m (step seats s m (asked q))
+
+module _ (s : Scheme) (m : Matrix) (q : Form) where
+  turned : (now : Stepped) (cells : List ℕ) → _≡_ {A = Stepped × List ℕ} (now, cells) (answered m (step seats s m (asked q)))
+      → (v : ℕ) → v ≡ numberOf (now .answer) → Turned s m q v (record { things = now .things; cells = cells })
+  turned now cells e v f = record { told = f ∙ answered-number m _ now cells e; left = answered-after m _ now cells e }
+
+  pub turned-none : s .head .count ≤ q .command → Turned s m q 10 m
+  turned-none h = turned _ _ (no-command s m (q .command) (idsOf q) h (refusedWith 10 (m .things)) refl) 10 refl
+
+  pub turned-some : T (acceptedScheme s) → q .command < s .head .count → (d : Command) (now : Stepped) (cells : List ℕ)
+      → _≡_ {A = Stepped × List ℕ} (now, cells) (answered m (carryOut seats m (idsOf q) (getD (s .commands) (q .command) d)))
+      → (v : ℕ) → v ≡ numberOf (now .answer) → Turned s m q v (record { things = now .things; cells = cells })
+  turned-some ok h d now cells e = turned now cells (command-step s ok m (q .command) h d (idsOf q) _ e)
 
 -- ---- the requests done and the requests left are the whole
 
@@ -244,83 +225,89 @@ running-start s m bytes out of = record {
 }
 
 module _ {s : Scheme} {first : Matrix} {bytes buffer : List ℕ} {m : Matrix} {out : List ℕ} {n p : ℕ}
-    (r : Running s first bytes buffer m out n p) (ok : T (acceptedScheme s)) (room : length (listOf bytes .requests) ≤ length buffer) where
+    (r : Running s first bytes buffer m out n p) where
   pub same-room : length out ≡ length buffer
   same-room = ap length (r .stored) ∙ length-sets buffer 0 (r .nums)
 
-  module _ (more : p < length bytes) (a : RequestAnswer) (is : a ≡ readRequest bytes p) (next : ℕ) (on : a .answer ≡ request-reading.Done next) where
-    pub running-room : n < length out
-    running-room =
-        let (rest, c, e) = counting-on (r .counting) more a is next on in
-        let l : length (r .left .requests) ≡ suc (length (rest .requests)) = ap (λ (x : Listed). length (x .requests)) e in
-        let t = r .counting .total in
-        omega (arith, same-room)
-
-    pub running-on : (now : Stepped) (cells : List ℕ)
-        → _≡_ {A = Stepped × List ℕ} (now, cells) (answered m (step seats s m (asked (a .request))))
-        → (v : ℕ) → v ≡ numberOf (now .answer)
-        → Running s first bytes buffer (record { things = now .things; cells = cells }) (set out n v) (n + 1) next
-    unfolding run answers
-    running-on now cells e v ev =
-        let (rest, c, l) = counting-on (r .counting) more a is next on in
-        let o : Outcome Matrix = step seats s m (asked (a .request)) in
-        let number-is : v ≡ number o = ev ∙ answered-number m o now cells e in
-        let after-is : _≡_ {A = Matrix} (record { things = now .things; cells = cells }) (after m o) = answered-after m o now cells e in
-        let qs : r .left .requests ≡ asked (a .request) ∷ rest .requests = ap (λ (x : Listed). x .requests) l in
-        record {
-          left = rest;
-          counting = c;
-          nums = r .nums ++ v ∷ [];
-          count = length-append (r .nums) (v ∷ []) ∙ omega (arith, r .count);
-          ending = r .ending ∙ ap (λ (x : Listed). x .ending) l;
-          ran = rw after-is (rw qs at (r .ran));
-          told = rw (after-is, append-assoc, number-is) (rw qs at (r .told));
-          stored = rw (sets-append, zero-add, r .count, ← r .stored);
-          held = rw after-is (kept s m (asked (a .request)) ok (r .held));
-        }
+  pub running-on : T (acceptedScheme s) → p < length bytes → (a : RequestAnswer) → a ≡ readRequest bytes p
+      → (next : ℕ) → a .answer ≡ request-reading.Done next → (v : ℕ) (now : Matrix) → Turned s m (a .request) v now
+      → Running s first bytes buffer now (set out n v) (n + 1) next
+  unfolding run answers
+  running-on ok more a is next on v now t =
+      let (rest, c, l) = counting-on (r .counting) more a is next on in
+      let qs : r .left .requests ≡ asked (a .request) ∷ rest .requests = ap (λ (x : Listed). x .requests) l in
+      record {
+        left = rest;
+        counting = c;
+        nums = r .nums ++ v ∷ [];
+        count = length-append (r .nums) (v ∷ []) ∙ omega (arith, r .count);
+        ending = r .ending ∙ ap (λ (x : Listed). x .ending) l;
+        ran = rw (t .left) (rw qs at (r .ran));
+        told = rw (t .left, append-assoc, t .told) (rw qs at (r .told));
+        stored = rw (sets-append, zero-add, r .count, ← r .stored);
+        held = rw (t .left) (kept s m (asked (a .request)) ok (r .held));
+      }
 
   abbrev result : RunAnswer → Result
   result answer = record { ran = record { answer = answer; things = m .things }; cells = m .cells; numbers = out }
 
-  module _ (of : T (acceptedMatrix (s .head) first)) where
-    finish : (e : Reading) → r .left ≡ ended e → result (runAnswer n e) ≡ runOn s first bytes buffer
-    unfolding runOn run answers
-    finish e l =
-        let qs : r .left .requests ≡ [] = ap (λ (x : Listed). x .requests) l in
-        let long : length (listOf bytes .requests) ≡ n = r .counting .total ∙ rw (qs, add-zero) in
-        let ending : listOf bytes .ending ≡ e = r .ending ∙ ap (λ (x : Listed). x .ending) l in
-        let ran : run seats s first (listOf bytes .requests) ≡ m = rw qs at (r .ran) in
-        let told : answers seats s first (listOf bytes .requests) ≡ r .nums = (rw qs at (r .told)) ∙ append-nil (r .nums) in
-        let fits : 0 + length (r .nums) ≤ length buffer = omega (arith, r .count) in
-        let there : placed buffer 0 (r .nums) ≡ out = sym (r .stored ∙ placed-sets buffer 0 (r .nums) fits) in
-        rw (is-true (acceptedScheme s) ok, is-true (acceptedMatrix (s .head) first) of, le-leb _ _ room, long, ending, ran, told, there)
+  finish : (e : Reading) → r .left ≡ ended e → result (runAnswer n e) ≡ ranOn s first bytes buffer
+  unfolding ranOn run answers
+  finish e l =
+      let qs : r .left .requests ≡ [] = ap (λ (x : Listed). x .requests) l in
+      let long : length (listOf bytes .requests) ≡ n = r .counting .total ∙ rw (qs, add-zero) in
+      let ending : listOf bytes .ending ≡ e = r .ending ∙ ap (λ (x : Listed). x .ending) l in
+      let ran : run seats s first (listOf bytes .requests) ≡ m = rw qs at (r .ran) in
+      let told : answers seats s first (listOf bytes .requests) ≡ r .nums = (rw qs at (r .told)) ∙ append-nil (r .nums) in
+      rw (long, ending, ran, told, ← r .stored)
 
-    pub run-none : length bytes ≤ p → result (Whole n) ≡ runOn s first bytes buffer
-    run-none h = finish _ (counting-none (r .counting) h)
+  pub run-none : length bytes ≤ p → result (Whole n) ≡ ranOn s first bytes buffer
+  run-none h = finish _ (counting-none (r .counting) h)
 
-    module _ (more : p < length bytes) (a : RequestAnswer) (is : a ≡ readRequest bytes p) where
-      pub run-end : a .answer ≡ request-reading.End → result (Whole n) ≡ runOn s first bytes buffer
-      run-end e = finish _ (counting-end (r .counting) more a is e)
+  pub run-stop : p < length bytes → (a : RequestAnswer) → a ≡ readRequest bytes p → Stops (a .answer)
+      → (now : Ran) → now ≡ record { answer = endedBy n (a .answer); things = m .things }
+      → record { ran = now; cells = m .cells; numbers = out } ≡ ranOn s first bytes buffer
+  run-stop more a is h now e = let (ending, l, f) = counting-stop (r .counting) more a is (a .answer) refl h in rw (e, f) (finish ending l)
 
-      pub run-refused : (k q : ℕ) → a .answer ≡ request-reading.Refused k q → result (Bad n k q) ≡ runOn s first bytes buffer
-      run-refused k q e = finish _ (counting-refused (r .counting) more a is k q e)
+-- ---- a list as a whole: what refuses it, and what is told of it where nothing does
 
--- ---- the list's own refusals
+answers-length : (s : Scheme) (m : Matrix) (rs : List Request) → length (answers seats s m rs) ≡ length rs
+unfolding answers
+answers-length s m [] = refl
+answers-length s m (r ∷ rs) = ap suc (answers-length s (after m (step seats s m r)) rs)
 
 module _ (s : Scheme) (m : Matrix) (bytes out : List ℕ) (now : Ran) where
-  abbrev refusal : Result
-  refusal = record { ran = now; cells = m .cells; numbers = out }
+  abbrev accepted : Bool
+  accepted = acceptedScheme s && acceptedMatrix (s .head) m
 
-  pub list-27 : acceptedScheme s ≡ false → now ≡ record { answer = Refused 27; things = m .things } → refusal ≡ runOn s m bytes out
-  unfolding runOn
-  list-27 e f = rw (e, f)
+  abbrev Given : List ℕ → List ℕ → Type 0
+  Given cells numbers = record { ran = now; cells = cells; numbers = numbers } ≡ runOn s m bytes out
 
-  module _ (ok : acceptedScheme s ≡ true) where
-    pub matrix-27 : acceptedMatrix (s .head) m ≡ false → now ≡ record { answer = Refused 27; things = m .things } → refusal ≡ runOn s m bytes out
+  abbrev Quiet : List ℕ → Type 0
+  Quiet cells = _≡_ {A = Ran × List ℕ} (now, cells) (runQuietly s m bytes)
+
+  module _ (e : accepted ≡ false) (f : now ≡ record { answer = Refused 27; things = m .things }) where
+    pub list-27 : Given (m .cells) out
     unfolding runOn
-    matrix-27 e f = rw (ok, e, f)
+    list-27 = rw (e, f)
 
-    pub list-9 : acceptedMatrix (s .head) m ≡ true → length out < length (listOf bytes .requests) → now ≡ record { answer = Refused 9; things = m .things }
-        → refusal ≡ runOn s m bytes out
+    pub quiet-27 : Quiet (m .cells)
+    unfolding runQuietly
+    quiet-27 = rw (e, f)
+
+  module _ (e : accepted ≡ true) where
+    pub list-9 : length out < length (listOf bytes .requests) → now ≡ record { answer = Refused 9; things = m .things } → Given (m .cells) out
     unfolding runOn
-    list-9 e h f = rw (ok, e, lt-leb _ _ h, f)
+    list-9 h f = rw (e, lt-leb _ _ h, f)
+
+    module _ (cells numbers : List ℕ) (f : record { ran = now; cells = cells; numbers = numbers } ≡ ranOn s m bytes out) where
+      pub list-runs : length (listOf bytes .requests) ≤ length out → Given cells numbers
+      unfolding runOn ranOn
+      list-runs h =
+          let told = answers seats s m (listOf bytes .requests) in
+          let fits : 0 + length told ≤ length out = omega (arith, answers-length s m (listOf bytes .requests)) in
+          rw (e, le-leb _ _ h, ← placed-sets out 0 told fits) f
+
+      pub quiet-runs : Quiet cells
+      unfolding runQuietly ranOn
+      quiet-runs = rw e (ap (λ (x : Result). (x .ran, x .cells)) f)

@@ -55,18 +55,19 @@ module _ {A : Type 0} (l : List A) (n : ℕ) (fits : n ≤ length l) (i : ℕ) w
 
 -- ---- the search for a seat
 
-module _ (ids : List ℕ) (full : length ids ≡ 48) (i x : ℕ) (h : i < 48) where
-  pub find-here : getD ids i 0 ≡ x → i ≡ i + find (drop i ids) x
-  unfolding find
-  find-here e = rw (turn ids 48 full i 0 h, eq-eqb _ _ e) (omega arith)
+module _ (ids : List ℕ) (full : length ids ≡ 48) (i x : ℕ) where
+  module _ (h : i < 48) where
+    pub find-here : getD ids i 0 ≡ x → i ≡ i + find (drop i ids) x
+    unfolding find
+    find-here e = rw (turn ids 48 full i 0 h, eq-eqb _ _ e) (omega arith)
 
-  pub find-on : (j : ℕ) → j ≡ i + 1 → (getD ids i 0 ≡ x → ⊥) → j + find (drop j ids) x ≡ i + find (drop i ids) x
-  unfolding find
-  find-on j k e = rw (turn ids 48 full i 0 h, ne-eqb _ _ e, k) (omega arith)
+    pub find-on : (getD ids i 0 ≡ x → ⊥) → i + find (drop i ids) x ≡ i + 1 + find (drop (i + 1) ids) x
+    unfolding find
+    find-on e = rw (turn ids 48 full i 0 h, ne-eqb _ _ e) (omega arith)
 
-pub find-none : (ids : List ℕ) (x : ℕ) → length ids ≡ 48 → 48 ≡ 48 + find (drop 48 ids) x
-unfolding find
-find-none ids x full = rw (ended ids 48 full 48 (omega arith))
+  pub find-none : i ≤ 48 → 48 ≤ i → 48 ≡ i + find (drop i ids) x
+  unfolding find
+  find-none l h = rw (ended ids 48 full i h) (omega arith)
 
 -- what is found is among them
 among-length : (ids : List ℕ) (x : ℕ) → among ids x ≡ ltb (find ids x) (length ids)

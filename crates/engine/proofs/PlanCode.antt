@@ -1,7 +1,7 @@
 -- What a create, a destroy and each turn of the plan answer, by the tests of the code. Over plain lists and numbers, so that a function's
 -- proof names few places of its context. Assumes nothing.
 use Prim.Native.Nat.{ℕ, _+_, _≤_, _<_}
-use mathlib.Core.Path.{_≡_}
+use mathlib.Core.Path.{_≡_, refl}
 use mathlib.Core.Bool.{true, false}
 use mathlib.Core.List.{List}
 use native.Mathlib.Omega.{arith}
@@ -10,10 +10,12 @@ use borrow.Author.Tests.{lt-ltb, le-ltb, eq-eqb, ne-eqb}
 use Rattle.rights.specs.declared.ThingType.{ThingType}
 use Rattle.rights.specs.declared.Parameter.{Parameter}
 use Rattle.model.specs.Seats.{find, known, full, seat, putThing, noType}
+use Rattle.model.specs.declared.Code.{Code}
+use Rattle.model.specs.declared.Code.the-variants.{Enter, Delete, Create, Destroy}
 use Rattle.model.specs.declared.Operation.{Operation}
 use Rattle.model.specs.declared.Things.{Things}
-use Rattle.engine.specs.Plan.{Planned, fine, faulty, seatAt, planCreate, planDestroy, planOne, goOn, planAll}
-use Rattle.engine.specs.Code.{planOf, asPlanning}
+use Rattle.engine.specs.Plan.{Plan, Planned, fine, faulty, seatAt, planCreate, planDestroy, planBy, planOne, goOn, planAll}
+use Rattle.engine.specs.Code.{planOf, asPlanning, changesThings}
 use Rattle.engine.specs.declared.answers.Answer.the-variants.{Done, Refused}
 use Rattle.engine.specs.declared.answers.Planning.{Planning}
 use Rattle.engine.proofs.LocateLaws.{among-found, turn-used, ended-used, noOperation}
@@ -72,10 +74,24 @@ module _ (th : Things) (at : List ℕ) (x : ℕ) (p : Parameter) (i : ℕ) (sits
 
 -- ---- the operations in order
 
+over-one : (types : List ThingType) (ids : List ℕ) (o : Operation) (plan : Plan) (code : Code) → changesThings code ≡ false →
+    planBy types ids o plan code ≡ fine plan
+unfolding planBy
+over-one types ids o plan Enter e = refl
+over-one types ids o plan Delete e = refl
+over-one types ids o plan Create e = let z : _≡_ {A = ℕ} 0 1 = cc in absurd (omega arith)
+over-one types ids o plan Destroy e = let z : _≡_ {A = ℕ} 0 1 = cc in absurd (omega arith)
+
 module _ (types : List ThingType) (ids : List ℕ) (os : List Operation) (n : ℕ) (fits : n ≤ length os) (i : ℕ) (th : Things) (at : List ℕ) where
   pub plan-end : n ≤ i → planAll types ids (drop i (take n os)) (planOf th at) ≡ fine (planOf th at)
   unfolding planAll
   plan-end h = rw (ended-used os n fits i h)
+
+  -- an operation that changes no thing
+  pub plan-over : i < n → changesThings (getD os i noOperation .code) ≡ false →
+      planAll types ids (drop i (take n os)) (planOf th at) ≡ planAll types ids (drop (i + 1) (take n os)) (planOf th at)
+  unfolding planAll planOne goOn
+  plan-over h e = rw (turn-used os n fits i noOperation h, over-one types ids (getD os i noOperation) (planOf th at) (getD os i noOperation .code) e)
 
   module _ (h : i < n) (r : Planning) (step : r ≡ asPlanning th (planOne types ids (getD os i noOperation) (planOf th at))) where
     pub plan-on : r .answer ≡ Done →

@@ -186,7 +186,7 @@ places-from m os n (t ∷ ts) (x ∷ xs) ok e zero h = rw (add-zero n) (placed m
 places-from m os n (t ∷ ts) (x ∷ xs) ok e (suc i) h =
     rw (add-suc n i, ← suc-add n i) (places-from m os (suc n) ts xs (search then-pass) (omega arith) i (le-of-suc-le-suc h))
 
-seats-room : (th : Things) (os : List Operation) (n : ℕ) (ts : List ThingType) (xs : List ℕ) → length xs ≡ length ts
+pub seats-room : (th : Things) (os : List Operation) (n : ℕ) (ts : List ThingType) (xs : List ℕ) → length xs ≡ length ts
     → length (seatsFrom th os n ts xs) ≡ length ts
 unfolding seatsFrom
 seats-room th os n [] xs e = refl

@@ -3,7 +3,7 @@
 use Prim.Native.Nat.{ℕ, zero, suc, _-_, _≤_, _<_}
 use native.Mathlib.Nat.{not-suc-le-zero, le-of-suc-le-suc}
 use native.Mathlib.Omega.{arith}
-use mathlib.Core.Path.{_≡_, refl, sym, ap, _∙_}
+use mathlib.Core.Path.{_≡_, refl, sym, _∙_}
 use mathlib.Core.Bool.{Bool, true, false}
 use mathlib.Core.Option.{none, some}
 use mathlib.Core.List.{List, [], _∷_, _++_}
@@ -32,6 +32,7 @@ use Rattle.engine.specs.declared.answers.Located.{Located}
 use Rattle.engine.specs.declared.answers.Planning.{Planning}
 use Rattle.engine.specs.declared.answers.Stepped.{Stepped}
 use Rattle.engine.proofs.Padding.{tests-padded, cells-padded, padAll, plan-padded}
+use Rattle.engine.proofs.PlanLaws.{seats-room}
 use Rattle.engine.proofs.PlanIsStep.{plan-is-step}
 
 -- ---- what the functions called require of the counts and of the cells
@@ -66,12 +67,6 @@ unfolding placesFault placeFault seats
 places-bare m os p [] xs = refl
 places-bare m os p (t ∷ ts) [] = refl
 places-bare m os p (t ∷ ts) (x ∷ xs) = rw (places-bare m os (suc p) ts xs)
-
-room : (th : Things) (os : List Operation) (n : ℕ) (ts : List ThingType) (xs : List ℕ) → length xs ≡ length ts → length (seatsFrom th os n ts xs) ≡ length ts
-unfolding seatsFrom
-room th os n [] xs e = refl
-room th os n (t ∷ ts) [] e = e
-room th os n (t ∷ ts) (x ∷ xs) e = ap suc (room th os (suc n) ts xs (omega arith))
 
 -- what an answer of `locate` says, by the first fault
 located-stop : (at : List ℕ) (f : Fault) (found : Located) (k : ℕ) → found ≡ locatedBy at f → found .answer ≡ Refused k → f ≡ some k
@@ -168,7 +163,7 @@ module _ (c : Command) (m : Matrix) (ids : List ℕ) (ready : Ready c m) where
         plan-is =
             let head = ready .head in
             let form = formed-command head c (ready .command) in
-            rw (← plan-padded zeros head types ids 0 os (planOf (m .things) at) (room (m .things) os 0 types ids enough) (form .body), ← seated .at) p
+            rw (← plan-padded zeros head types ids 0 os (planOf (m .things) at) (seats-room (m .things) os 0 types ids enough) (form .body), ← seated .at) p
 
         pub stops-plan : (k : ℕ) → plan .answer ≡ Refused k → (r : Stepped) → r ≡ refusedWith k (m .things) → Gives r (m .cells)
         stops-plan k a r = refuses k r (planned-on ∙ carried-stop m os zeros _ plan k plan-is a)

@@ -1,7 +1,7 @@
 -- The answers of the inner functions, from what `Plan` gives.
 -- Assumes nothing.
 use Prim.Native.Nat.{ℕ, _-_}
-use mathlib.Core.Bool.{Bool, cond}
+use mathlib.Core.Bool.{Bool, true, false, cond}
 use mathlib.Core.Option.{none, some}
 use mathlib.Core.List.{List, [], _++_}
 use lib.ListN.{length, replicate}
@@ -9,6 +9,8 @@ use Rattle.rights.specs.declared.ThingType.{ThingType}
 use Rattle.model.specs.Check.{Fault}
 use Rattle.model.specs.Request.{placeFault, placesFault}
 use Rattle.model.specs.Seats.{Matrix, seats, find}
+use Rattle.model.specs.declared.Code.{Code}
+use Rattle.model.specs.declared.Code.the-variants.{Enter, Delete, Create, Destroy}
 use Rattle.model.specs.declared.Operation.{Operation}
 use Rattle.model.specs.declared.Things.{Things}
 use Rattle.engine.specs.Plan.{Plan, Planned, fine, faulty, seatsFrom}
@@ -43,3 +45,10 @@ planOf th at = record { things = th; at = at }
 abbrev pub asPlanning : Things → Planned → Planning
 asPlanning th (fine plan) = record { answer = Done; things = plan .things; at = plan .at }
 asPlanning th (faulty k) = record { answer = Refused k; things = th; at = replicate 8 0 }
+
+-- whether an operation makes or ends a thing
+abbrev pub changesThings : Code → Bool
+changesThings Enter = false
+changesThings Delete = false
+changesThings Create = true
+changesThings Destroy = true

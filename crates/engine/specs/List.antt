@@ -5,18 +5,17 @@ use mathlib.Core.Bool.{cond, _&&_}
 use mathlib.Core.List.{List, [], _∷_}
 use lib.Dec.{leb}
 use lib.ListN.{length}
+use lib.Seq.{sets}
 use Rattle.model.specs.Request.{Request, run, answers}
 use Rattle.model.specs.Seats.{Matrix, seats}
 use Rattle.model.specs.Accepted.{acceptedScheme, acceptedMatrix}
 use Rattle.model.specs.declared.Scheme.{Scheme}
-use Rattle.model.specs.declared.Things.{Things}
 use Rattle.records.specs.Writing.{placed}
 use Rattle.records.specs.declared.Reading.{Reading}
 use Rattle.records.specs.declared.Reading.the-variants as reading
 use Rattle.request_bytes.specs.Read.{idsOf, readRequest}
 use Rattle.request_bytes.specs.declared.RequestReading.{RequestReading}
 use Rattle.request_bytes.specs.declared.RequestReading.the-variants as request-reading
-use Rattle.request_bytes.specs.declared.RequestAnswer.{RequestAnswer}
 use Rattle.request_bytes.specs.declared.Request.{Request as Read}
 use Rattle.engine.specs.declared.answers.RunAnswer.{RunAnswer}
 use Rattle.engine.specs.declared.answers.RunAnswer.the-variants.{Whole, Bad, Refused}
@@ -47,6 +46,12 @@ abbrev pub runAnswer : ℕ → Reading → RunAnswer
 runAnswer count (reading.Done next) = Whole count
 runAnswer count (reading.Refused k at) = Bad count k at
 
+-- the same by the reading that ended the list; it gave no further request
+abbrev pub endedBy : ℕ → RequestReading → RunAnswer
+endedBy count (request-reading.Done next) = Whole count
+endedBy count request-reading.End = Whole count
+endedBy count (request-reading.Refused k at) = Bad count k at
+
 -- what is given: the answer with the things, the cells, and the answers' buffer
 pub record Result : Type 0 where
   pub ran : Ran
@@ -69,3 +74,23 @@ runOn s m bytes out =
     })
     (refusedRun m out 9))
     (refusedRun m out 27)
+
+-- each request in turn, on an accepted scheme and matrix: `sets` stores answers as far as the buffer has room
+unfoldable pub ranOn : Scheme → Matrix → List ℕ → List ℕ → Result
+ranOn s m bytes out =
+    let rs = listOf bytes .requests in
+    record {
+      ran = record { answer = runAnswer (length rs) (listOf bytes .ending); things = run seats s m rs .things };
+      cells = run seats s m rs .cells;
+      numbers = sets out 0 (answers seats s m rs);
+    }
+
+-- a list whose answers nobody asks for: 27 once, then each request in turn; the answer with the things, and the cells
+unfoldable pub runQuietly : Scheme → Matrix → List ℕ → Ran × List ℕ
+runQuietly s m bytes =
+    let l = listOf bytes in
+    cond (acceptedScheme s && acceptedMatrix (s .head) m) (
+      record { answer = runAnswer (length (l .requests)) (l .ending); things = run seats s m (l .requests) .things },
+      run seats s m (l .requests) .cells,
+    )
+    (record { answer = Refused 27; things = m .things }, m .cells)

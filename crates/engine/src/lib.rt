@@ -11,4 +11,5 @@ pub use answers::Ran;
 pub use answers::RunAnswer;
 pub use answers::Stepped;
 pub use list::run_list;
+pub use list::run_quietly;
 pub use step::request;

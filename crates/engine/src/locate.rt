@@ -15,19 +15,19 @@ ghost use Rattle.model.specs.Seats.{find};
 ghost use Rattle.accepted.specs.Answers.{typesOf, bodyOf};
 ghost use Rattle.engine.specs.Code.{placed, located};
 
-// The first seat with this id, or 48. Every seat is looked at, so that the compiler may take several at a time.
+// The first seat with this id, or 48. It stops at that seat: measured, this is faster than a look at every seat, several at a time, on few things and on
+// many.
 pub fn seat_of(ids: [u16; 48], x: u16) -> usize
     ensures { λ r. ⌜ r ≡ find ids x ⌝ }
 {
-    let mut found: usize = 48;
-    let mut i: usize = 48;
-    while 0 < i {
-        i -= 1;
+    let mut i: usize = 0;
+    while i < 48 {
         if ids[i] == x {
-            found = i;
+            return i;
         }
+        i += 1;
     }
-    found
+    48
 }
 
 // Whether a create names the parameter.

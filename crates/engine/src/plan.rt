@@ -17,7 +17,7 @@ ghost use Rattle.model.specs.Scheme.{idAt};
 ghost use Rattle.model.specs.Seats.{putThing};
 ghost use Rattle.engine.specs.Plan.{seatAt, planCreate, planDestroy, planOne, planAll};
 ghost use Rattle.accepted.specs.Answers.{typesOf, bodyOf};
-ghost use Rattle.engine.specs.Code.{planOf, asPlanning};
+ghost use Rattle.engine.specs.Code.{planOf, asPlanning, changesThings};
 
 fn id_at(ids: &[u16], p: Parameter) -> u16
     ensures { λ r. ⌜ r ≡ idAt (now (ids .entry)) p ⌝ }
@@ -65,12 +65,13 @@ fn plan_create(th: Things, at: [u8; 8], x: u16, t: ThingType, p: Parameter) -> P
     ensures { λ r. ⌜ r ≡ asPlanning th (planCreate x t p (planOf th at)) ⌝ }
 {
     let ids = th.ids;
+    let here = seat_of(ids, x);
+    let free = seat_of(ids, 0);
     if x != 0 {
-        if seat_of(ids, x) < 48 {
+        if here < 48 {
             return fault(15, th);
         }
     }
-    let free = seat_of(ids, 0);
     if 48 <= free {
         return fault(16, th);
     }
@@ -123,6 +124,18 @@ fn plan_one(th: Things, at: [u8; 8], p: Parameters, ids: &[u16], o: Operation) -
     }
 }
 
+// An enter or a delete changes no thing: the plan passes over it.
+fn changes_things(c: Code) -> bool
+    ensures { λ r. ⌜ r ≡ changesThings c ⌝ }
+{
+    match c {
+        Code::Enter => false,
+        Code::Delete => false,
+        Code::Create => true,
+        Code::Destroy => true,
+    }
+}
+
 // All operations in order, up to the first fault.
 pub fn plan_all(th: Things, at: [u8; 8], p: Parameters, ids: &[u16], o: Operations) -> Planning
     requires { ⌜ (p .count ≤ 8) × (o .count ≤ 32) ⌝ }
@@ -134,18 +147,17 @@ pub fn plan_all(th: Things, at: [u8; 8], p: Parameters, ids: &[u16], o: Operatio
     let mut i: usize = 0;
     while i < n {
         let one = o.list[i];
-        let next = plan_one(things, to, p, ids, one);
-        let answer = next.answer;
-        let new = next.things;
-        let seats = next.at;
-        match answer {
-            Answer::Done => {
-                things = new;
-                to = seats;
-            }
-            Answer::Refused(x) => {
+        let code = one.code;
+        if changes_things(code) {
+            let next = plan_one(things, to, p, ids, one);
+            let answer = next.answer;
+            let new = next.things;
+            let seats = next.at;
+            if let Answer::Refused(x) = answer {
                 return fault(x, th);
             }
+            things = new;
+            to = seats;
         }
         i += 1;
     }

@@ -5,10 +5,10 @@ use native.Mathlib.Omega.{arith}
 use mathlib.Core.Bool.{Bool, true, false, cond}
 use mathlib.Core.List.{List, [], _∷_, _++_}
 use mathlib.Core.Path.{_≡_, refl, sym, ap, _∙_}
-use lib.Dec.{leb, eqb}
+use lib.Dec.{leb, eqb, leb→le}
 use lib.ListN.{length, take, drop, replicate, length-append, length-take, length-drop, take-append-drop}
 use lib.Seq.{take-append-seam, take-at, take-take, length-take-le}
-use borrow.Author.Tests.{le-leb, leb-true, ne-eqb}
+use borrow.Author.Tests.{le-leb, ne-eqb}
 use Rattle.records.specs.Bytes.{part}
 use Rattle.records.specs.Reading.{Read, got, fault, byte, field, number, steps}
 use Rattle.records.specs.Front.{Refusal}
@@ -17,6 +17,7 @@ use Rattle.records.specs.declared.Writing.{Writing}
 use Rattle.records.specs.declared.Writing.the-variants as writing
 use Rattle.records.proofs.FieldLaws.{apart}
 use Rattle.records.proofs.PlacedLaws.{take-through-placed}
+use Rattle.records.proofs.Wrote.{Wrote, wrote}
 use Rattle.records.proofs.Trip.{Bytes, body, bind-got, got-value, trip-steps}
 use Rattle.records.proofs.TripFields.{trip-byte, trip-field, trip-number}
 use Rattle.records.proofs.TripRecord.{bytes-part, in-record-back}
@@ -30,27 +31,6 @@ use Rattle.request_bytes.proofs.Laws.{length-request}
 use Rattle.request_bytes.proofs.RoundTrips.{round-trips}
 
 -- ---- written, then read
-
--- a writing that was done had room, and placed the bytes
-record Wrote (out : List ℕ) (at : ℕ) (vs : List ℕ) (next : ℕ) (left : List ℕ) : Type 0 where
-  pub room : at + length vs ≤ length out
-  pub behind : next ≡ at + length vs
-  pub stands : left ≡ placed out at vs
-
-pair-eq : {x y : Writing} {l m : List ℕ} → _≡_ {A = Writing × List ℕ} (x, l) (y, m) → (x ≡ y) × (l ≡ m)
-pair-eq e = (ap (λ (p : Writing × List ℕ). p .0) e, ap (λ (p : Writing × List ℕ). p .1) e)
-
-wrote : (may : Bool) (out : List ℕ) (at : ℕ) (vs : List ℕ) (next : ℕ) (left : List ℕ) →
-    _≡_ {A = Writing × List ℕ} (cond may (writeBytes out at vs) (writing.Refused 4, out)) (writing.Done next, left) → (may ≡ true) × Wrote out at vs next left
-unfolding writeBytes
-wrote true out at vs next left e = (refl, go (leb (at + length vs) (length out)) refl e)
-  where
-    go : (b : Bool) → leb (at + length vs) (length out) ≡ b →
-        _≡_ {A = Writing × List ℕ} (cond b (writing.Done (at + length vs), placed out at vs) (writing.Refused 9, out)) (writing.Done next, left) →
-        Wrote out at vs next left
-    go true f e = let (p, d) = pair-eq e in record { room = leb-true _ _ f; behind = cc; stands = sym d }
-    go false f e = let (p, d) = pair-eq e in apart (cc)
-wrote false out at vs next left e = let (p, d) = pair-eq e in apart (cc)
 
 -- what begins as the buffer does holds the bytes too: placing them there changes nothing
 module _ {out : List ℕ} {at : ℕ} {vs : List ℕ} {next : ℕ} {left : List ℕ} (w : Wrote out at vs next left) (bytes : List ℕ)
@@ -99,12 +79,12 @@ pub function-trips : FunctionTrips
 unfolding part requestOf requestAt readRequest writeRequest writeBytes
 function-trips = record {
   written = λ out at command ids next left c low e.
-      let (few, w) = wrote (leb (length ids) 8) out at (requestBytes command ids) next left e in (
+      let (few, w) = wrote (leb (length ids) 8) 4 out at (requestBytes command ids) next left e in (
         take-append-seam ids (replicate (8 - length ids) 0),
         λ bytes h.
             let l = long w bytes h in
             let n : at ≡ length bytes → ⊥ = λ z. omega (arith, w .behind, length-request command ids) in
-            let t = round-trips .there bytes at command ids c (leb-true _ _ few) low (omega (arith, w .behind)) in
+            let t = round-trips .there bytes at command ids c (leb→le _ _ few) low (omega (arith, w .behind)) in
             rw (ne-eqb _ _ n, rw (again w bytes h, ← (w .behind)) at t),
       );
   read = λ bytes at next q g e.

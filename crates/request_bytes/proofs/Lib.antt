@@ -1,4 +1,5 @@
 -- The laws of a request's definitions, and its round trips.
 pub mod Laws
 pub mod RoundTrips
+pub mod Skip
 pub mod FunctionTrips

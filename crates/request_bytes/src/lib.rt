@@ -9,7 +9,7 @@ ghost use mathlib.Core.List.{List};
 ghost use Prim.Native.Nat.{ℕ, _+_, _*_, _≤_, _<_};
 ghost use lib.ListN.{length, drop};
 ghost use lib.Seq.{sets};
-ghost use Rattle.records.specs.Reading.{fault, whole, steps, number};
+ghost use Rattle.records.specs.Reading.{fault, whole, steps, number, field, asField};
 ghost use Rattle.records.specs.Front.{onBody};
 ghost use Rattle.request_bytes.specs.Read.{request, asRequest, noRequest, readRequest, asIds, refusalOf};
 ghost use Rattle.request_bytes.specs.Write.{idBytes, requestBytes, writeRequest};
@@ -78,6 +78,13 @@ fn passed_up(found: RecordAnswer) -> RequestAnswer
 
 // ---- reading
 
+// How many ids a body has, behind its command number.
+fn count_at(b: &[u8]) -> Field
+    ensures { λ r. ⌜ r ≡ asField (field 0 9 4 (drop 1 (now (b .entry)))) ⌝ }
+{
+    records::field_at(b, 1, 0, 9, 4)
+}
+
 fn ids_at(b: &[u8], i: usize, count: u8) -> IdsRead
     requires { ⌜ (i ≤ 1024) × (count ≤ 8) ⌝ }
     ensures { λ r. ⌜ r ≡ asIds (steps (λ (u : Unit {0}). number 2) (λ u x. u) count tt (drop i (now (b .entry)))) ⌝ }
@@ -113,7 +120,7 @@ fn request_of(b: &[u8], at: usize, next: usize) -> RequestAnswer
         Field::Value(v) => v,
         Field::Fault(x) => return refused(x, at),
     };
-    let count = match records::field_at(b, 1, 0, 9, 4) {
+    let count = match count_at(b) {
         Field::Value(v) => v,
         Field::Fault(x) => return refused(x, at),
     };
@@ -156,6 +163,40 @@ pub fn read_request(s: &[u8], at: usize) -> RequestAnswer
         return passed_up(found);
     };
     request_of(records::body(s, start, len), at, start + len)
+}
+
+// Whether a request's body ends with its last id, and nothing else: no id is read.
+fn skip_body(b: &[u8], at: usize, next: usize) -> RequestReading
+    ensures { λ r. ⌜ r ≡ asRequest (onBody at next (whole request (now (b .entry)))) .answer ⌝ }
+{
+    let count = match count_at(b) {
+        Field::Value(v) => v,
+        Field::Fault(x) => return RequestReading::Refused { number: x, at },
+    };
+    if b.len() != 2 + 2 * (count as usize) {
+        return RequestReading::Refused { number: 3, at };
+    }
+    RequestReading::Done { next }
+}
+
+// What `read_request` answers, without the request.
+pub fn skip_request(s: &[u8], at: usize) -> RequestReading
+    ensures { λ r. ⌜ r ≡ readRequest (now (s .entry)) at .answer ⌝ }
+{
+    if s.len() == at {
+        return RequestReading::End;
+    }
+    let found = records::record_at(s, at, Kinds(64));
+    let RecordAnswer::Record {
+        kind: _,
+        start,
+        len,
+    } = found
+    else {
+        let refusal = passed_up(found);
+        return refusal.answer;
+    };
+    skip_body(records::body(s, start, len), at, start + len)
 }
 
 // ---- writing

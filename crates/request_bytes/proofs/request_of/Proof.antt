@@ -25,8 +25,8 @@ returns c =
     let command = c .before .before in
     c .refused .ensures ∙ rw (no-command _ _ (sym (command .before .before .byte-at .ensures) ∙ command .x .given .1))
 
-field-at-requires : tie.Need-field-at-requires
-field-at-requires c κs = search needs
+count-at-requires : tie.Need-count-at-requires
+count-at-requires c κs = search needs
 
 enum-known-v-2 : tie.Need-enum-known-v-2
 enum-known-v-2 c = search needs
@@ -42,12 +42,12 @@ returns-2 c =
     let count = c .before .before in
     let command = count .before .before .before .before in
     let ec = sym (command .before .before .byte-at .ensures) ∙ command .v .given .1 in
-    c .refused2 .ensures ∙ rw (no-count _ _ ec _ (sym (count .before .before .field-at .ensures) ∙ count .x2 .given .1))
+    c .refused2 .ensures ∙ rw (no-count _ _ ec _ (sym (count .before .before .count-at .ensures) ∙ count .x2 .given .1))
 
 ids-at-requires : tie.Need-ids-at-requires
 ids-at-requires c κs =
     let count = c .before in
-    let h = field-between _ _ _ _ _ (sym (count .before .before .field-at .ensures) ∙ count .v2 .given .1) in
+    let h = field-between _ _ _ _ _ (sym (count .before .before .count-at .ensures) ∙ count .v2 .given .1) in
     search needs
 
 enum-known-answer : tie.Need-enum-known-answer
@@ -62,7 +62,7 @@ returns-3 c =
     let count = ids .before .before in
     let command = count .before .before .before .before in
     let ec = sym (command .before .before .byte-at .ensures) ∙ command .v .given .1 in
-    let en = sym (count .before .before .field-at .ensures) ∙ count .v2 .given .1 in
+    let en = sym (count .before .before .count-at .ensures) ∙ count .v2 .given .1 in
     c .refused3 .ensures ∙ rw (no-ids _ _ ec _ en _ (ids .ids-at .ensures) _ (c .before .before .answer .given .1))
 
 enum-told : tie.Need-enum-told
@@ -86,7 +86,7 @@ returns-4 c =
     let count = ids .before .before in
     let command = count .before .before .before .before in
     let ec = sym (command .before .before .byte-at .ensures) ∙ command .v .given .1 in
-    let en = sym (count .before .before .field-at .ensures) ∙ count .v2 .given .1 in
+    let en = sym (count .before .before .count-at .ensures) ∙ count .v2 .given .1 in
     let start = command .before .before .before in
     let e = c .before .before .enum-told .given .1 in
     let l = more-left (start .before .args .b .now) _ ec _ en _ (ids .ids-at .ensures) (λ i. start .shared-slice-known .given i .fits) e in
@@ -98,7 +98,7 @@ returns-5 c =
     let count = ids .before .before in
     let command = count .before .before .before .before in
     let ec = sym (command .before .before .byte-at .ensures) ∙ command .v .given .1 in
-    let en = sym (count .before .before .field-at .ensures) ∙ count .v2 .given .1 in
+    let en = sym (count .before .before .count-at .ensures) ∙ count .v2 .given .1 in
     let start = command .before .before .before in
     let e = c .before .enum-told .given .1 in
     let l = none-more (start .before .args .b .now) _ ec _ en _ (ids .ids-at .ensures) (λ i. start .shared-slice-known .given i .fits) e in
@@ -113,7 +113,7 @@ request-of-spec =
     enum-known-x
     refused-requires
     returns
-    field-at-requires
+    count-at-requires
     enum-known-v-2
     enum-known-x-2
     refused-requires-2

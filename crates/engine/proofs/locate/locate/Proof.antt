@@ -55,7 +55,7 @@ enum-known-x c = search needs
 
 spot : (c : tie.After-spot-of Inv-loop μ-loop) → let s = c .before .before .before .before .before in let a = s .before .before .args in
     (r : Spot) → c .spot-of .result ≡ r → spotAt (a .th) (bodyOf (a .o)) (a .t2 .types) (a .ids .now) (s .loop .i) ≡ r
-spot c r e = rw (← c .before .before .is-new .ensures) (sym (c .spot-of .ensures) ∙ e)
+spot c r e = rw (c .before .before .is-new .ensures) at (sym (c .spot-of .ensures) ∙ e)
 
 returns : tie.Need-returns Inv-loop μ-loop
 returns c =

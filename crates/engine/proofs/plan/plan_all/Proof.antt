@@ -1,6 +1,7 @@
 -- What is left of the operations, on the plan so far, decides the answer.
-use Prim.Native.Nat.{_-_, _≤_}
-use mathlib.Core.Path.{_≡_, _∙_}
+use Prim.Native.Nat.{_+_, _-_, _≤_}
+use mathlib.Core.Path.{_≡_, sym, _∙_}
+use mathlib.Core.Logic.{⊎-elim}
 use native.Mathlib.Omega.{arith}
 use lib.ListN.{length, drop}
 use borrow.Author.Needs.{needs}
@@ -8,7 +9,7 @@ use Rattle.engine.specs.Plan.{planAll}
 use Rattle.accepted.specs.Answers.{typesOf, bodyOf}
 use Rattle.engine.specs.Code.{planOf}
 use Rattle.accepted.proofs.Walks.{long}
-use Rattle.engine.proofs.PlanCode.{plan-end, plan-on, plan-stop}
+use Rattle.engine.proofs.PlanCode.{plan-end, plan-over, plan-on, plan-stop}
 use Rattle.engine.proofs.plan.plan_all.Statement.{statement}
 use Rattle.engine.proofs.plan.plan_all.Tie as tie
 
@@ -35,11 +36,11 @@ mul-one c = search needs
 element-copy-out-one : tie.Need-element-copy-out-one Inv-loop μ-loop
 element-copy-out-one c = search needs
 
+changes-things-requires : tie.Need-changes-things-requires Inv-loop μ-loop
+changes-things-requires c κs = search needs
+
 plan-one-requires : tie.Need-plan-one-requires Inv-loop μ-loop
 plan-one-requires c κs = search needs
-
-enum-told : tie.Need-enum-told Inv-loop μ-loop
-enum-told c = search needs
 
 enum-known-answer : tie.Need-enum-known-answer Inv-loop μ-loop
 enum-known-answer c = search needs
@@ -50,11 +51,26 @@ fault-requires c κs = search needs
 returns : tie.Need-returns Inv-loop μ-loop
 returns c =
     let r = c .before .before .before .before .before .before in
-    let s = r .before .before .before in
+    let s = r .before .before .before .before .before in
     let a = s .before .before .args in
     let e = s .loop .inv .1
     ∙ plan-stop _ _ (a .t5 .list) _ (within s) (s .loop .i) _ _ (search needs) _ (r .plan-one .ensures) _ (c .before .before .answer .given .1) in
     c .fault .ensures ∙ rw e
+
+enum-told : tie.Need-enum-told Inv-loop μ-loop
+enum-told c = search needs
+
+-- a turn goes on with the plan that the operation left, or with the same one where it was passed over
+turned : (c : tie.Joined1 Inv-loop μ-loop) → let s = c .before .before .before .before in let a = s .before .before .args in
+    planAll (typesOf (a .p)) (a .ids .now) (drop (s .loop .i) (bodyOf (a .t5))) (planOf (s .loop .things) (s .loop .to))
+    ≡ planAll (typesOf (a .p)) (a .ids .now) (drop (s .loop .i + 1) (bodyOf (a .t5))) (planOf (c .if1 .things) (c .if1 .to))
+turned c =
+    let s = c .before .before .before .before in
+    let l = s .before .before .args .t5 .list in
+    ⊎-elim
+    (λ w. rw (w .6, w .7) (plan-on _ _ l _ (within s) (s .loop .i) _ _ (search needs) _ (w .1 .ensures) (w .5 .given .1)))
+    (λ w. rw (w .1, w .2) (plan-over _ _ l _ (within s) (s .loop .i) _ _ (search needs) (sym (c .before .changes-things .ensures) ∙ w .0 .left)))
+    (c .if1 .came)
 
 add-i : tie.Need-add-i Inv-loop μ-loop
 add-i c = search needs
@@ -63,13 +79,7 @@ loop-less : tie.Need-loop-less Inv-loop μ-loop
 loop-less c = search needs
 
 loop-again : tie.Need-loop-again Inv-loop μ-loop
-loop-again c =
-    let r = c .before .before .before .before in
-    let s = r .before .before .before in
-    let a = s .before .before .args in (
-      search needs,
-      s .loop .inv .1 ∙ plan-on _ _ (a .t5 .list) _ (within s) (s .loop .i) _ _ (search needs) _ (r .plan-one .ensures) (c .enum-told .given .1),
-    )
+loop-again c = (search needs, c .before .before .before .before .loop .inv .1 ∙ turned c)
 
 returns-2 : tie.Need-returns-2 Inv-loop μ-loop
 returns-2 c =
@@ -87,11 +97,12 @@ plan-all-spec =
     loop-holds
     mul-one
     element-copy-out-one
+    changes-things-requires
     plan-one-requires
-    enum-told
     enum-known-answer
     fault-requires
     returns
+    enum-told
     add-i
     loop-less
     loop-again

@@ -1,0 +1,56 @@
+-- `request_bytes::skip_body` meets its contract: the number of ids and the body's length decide.
+-- Assumes nothing.
+use mathlib.Core.Path.{sym, _∙_}
+use borrow.Author.Needs.{needs}
+use Rattle.request_bytes.proofs.Skip.{skip-fault, skip-off, skip-on}
+use Rattle.request_bytes.proofs.skip_body.Statement.{statement}
+use Rattle.request_bytes.proofs.skip_body.Tie as tie
+
+count-at-requires : tie.Need-count-at-requires
+count-at-requires c κs = search needs
+
+enum-known-v : tie.Need-enum-known-v
+enum-known-v c = search needs
+
+enum-known-x : tie.Need-enum-known-x
+enum-known-x c = search needs
+
+returns : tie.Need-returns
+returns c =
+    let count = c .before in
+    rw (skip-fault _ _ (sym (count .before .before .count-at .ensures) ∙ count .x .given .1))
+
+cast-if1 : tie.Need-cast-if1
+cast-if1 c = search needs
+
+mul-if1 : tie.Need-mul-if1
+mul-if1 c = search needs
+
+add-if1 : tie.Need-add-if1
+add-if1 c = search needs
+
+returns-2 : tie.Need-returns-2
+returns-2 c =
+    let count = c .before .before in
+    rw (skip-off _ _ (sym (count .before .before .count-at .ensures) ∙ count .v .given .1) (c .if1 .taken))
+
+returns-3 : tie.Need-returns-3
+returns-3 c =
+    let count = c .before .before in
+    let field = count .before .before in
+    let (q, e) = skip-on (field .before .before .args .b .now) _ (sym (field .count-at .ensures) ∙ count .v .given .1) (c .if1 .left) in
+    rw e
+
+pub skip-body-spec : {M : Type 1} → statement M
+skip-body-spec =
+    tie.close
+    (tie.spec
+    count-at-requires
+    enum-known-v
+    enum-known-x
+    returns
+    cast-if1
+    mul-if1
+    add-if1
+    returns-2
+    returns-3)
