@@ -1,2 +1,0 @@
--- What the contracts of `key_example` cite.
-pub mod Printed

@@ -1,0 +1,5 @@
+-- The laws behind the printout.
+pub mod PutLaws
+pub mod Decimals
+pub mod RequestLaws
+pub mod PlayLaws

@@ -1,0 +1,94 @@
+-- The outline, "The program play": the whole text, as ASCII codes. A heading, a line per request (position, command, result), and at the end
+-- things, cells that aren't empty, entries. Assumes nothing.
+use Prim.Native.Nat.{ℕ, zero, suc, _+_, _/_, _%_}
+use mathlib.Core.Bool.{cond}
+use mathlib.Core.List.{List, [], _∷_, _++_}
+use lib.Dec.{ltb}
+use lib.ListN.{take, replicate}
+use Rattle.model.specs.Request.{Request, run, answers}
+use Rattle.model.specs.Seats.{Matrix, seats, noType}
+use Rattle.model.specs.declared.Scheme.{Scheme}
+use Rattle.model.specs.declared.Things.{Things}
+use Rattle.records.specs.declared.Reading.{Reading}
+use Rattle.records.specs.declared.Reading.the-variants.{Done, Refused}
+use Rattle.scheme_bytes.specs.Read.{noScheme}
+use Rattle.scheme_bytes.specs.Answers.{readScheme}
+use Rattle.matrix_bytes.specs.Answers.{readMatrix}
+use Rattle.matrix_bytes.specs.declared.answers.MatrixAnswer.{MatrixAnswer}
+use Rattle.engine.specs.List.{Listed, listOf}
+use Rattle.totals.specs.Totals.{totalsOf}
+use Rattle.totals.specs.declared.answers.Totals.{Totals}
+use Rattle.totals.specs.declared.answers.Totals.the-variants as totals
+
+-- ---- numbers and lines
+
+-- a number in decimal; 20 digits hold every number of a machine's word
+unfoldable pub decimalIn : ℕ → ℕ → List ℕ
+decimalIn zero n = []
+decimalIn (suc k) n = cond (ltb n 10) ((48 + n) ∷ []) (decimalIn k (n / 10) ++ (48 + n % 10) ∷ [])
+
+unfoldable pub decimal : ℕ → List ℕ
+decimal n = decimalIn 20 n
+
+-- numbers with a space between them, then the line's end
+unfoldable pub line : List ℕ → List ℕ
+line [] = []
+line (x ∷ []) = decimal x ++ 10 ∷ []
+line (x ∷ y ∷ zs) = decimal x ++ 32 ∷ line (y ∷ zs)
+
+-- "request command result"
+unfoldable pub heading : List ℕ
+heading =
+    114 ∷ 101 ∷ 113 ∷ 117 ∷ 101 ∷ 115 ∷ 116 ∷ 32 ∷ 99 ∷ 111 ∷ 109 ∷ 109 ∷ 97 ∷ 110 ∷ 100 ∷ 32 ∷ 114 ∷ 101 ∷ 115 ∷ 117 ∷ 108 ∷ 116 ∷ 10 ∷ []
+
+-- "bad", the record's position and the refusal's number
+unfoldable pub badLine : ℕ → ℕ → List ℕ
+badLine at k = 98 ∷ 97 ∷ 100 ∷ 32 ∷ line (at ∷ k ∷ [])
+
+-- "end", then the totals
+abbrev pub endLine : Totals → List ℕ
+endLine (totals.Counted things cells entries) = 101 ∷ 110 ∷ 100 ∷ 32 ∷ line (things ∷ cells ∷ entries ∷ [])
+endLine (totals.Refused k) = badLine 0 k
+
+-- ---- requests
+
+-- each request's place in the list, its command, its result; k is the first one's place
+unfoldable pub requestLines : ℕ → List Request → List ℕ → List ℕ
+requestLines k [] results = []
+requestLines k (q ∷ qs) [] = []
+requestLines k (q ∷ qs) (r ∷ rs) = line (k ∷ q .command ∷ r ∷ []) ++ requestLines (suc k) qs rs
+
+-- a record that can't be read ends the list
+abbrev pub endingLine : Reading → List ℕ
+endingLine (Done next) = []
+endingLine (Refused k at) = badLine at k
+
+unfoldable pub runText : Scheme → Matrix → Listed → List ℕ
+runText s m l =
+    heading ++ requestLines 0 (l .requests) (answers seats s m (l .requests)) ++ endingLine (l .ending)
+    ++ endLine (totalsOf s (run seats s m (l .requests)))
+
+-- ---- the files: of a longer one only the first 65,536 bytes are the input
+unfoldable pub input : List ℕ → List ℕ
+input bytes = take 65536 bytes
+
+abbrev pub noThings : Things
+noThings = record { ids = replicate 48 0; types = replicate 48 noType }
+
+abbrev pub onMatrix : Scheme → List ℕ → MatrixAnswer × List ℕ → Reading → List ℕ
+onMatrix s requests m (Done next) = runText s (record { things = m .0 .things; cells = m .1 }) (listOf requests)
+onMatrix s requests m (Refused k at) = badLine at k
+
+unfoldable pub matrixText : Scheme → List ℕ → List ℕ → List ℕ
+matrixText s matrix requests =
+    let m = readMatrix matrix s noThings (replicate 2304 0) in
+    onMatrix s requests m (m .0 .answer)
+
+abbrev pub onScheme : Scheme → List ℕ → List ℕ → Reading → List ℕ
+onScheme s matrix requests (Done next) = matrixText s matrix requests
+onScheme s matrix requests (Refused k at) = badLine at k
+
+unfoldable pub playText : List ℕ → List ℕ → List ℕ → List ℕ
+playText scheme matrix requests =
+    let s = readScheme (input scheme) noScheme in
+    onScheme (s .scheme) (input matrix) (input requests) (s .answer)
