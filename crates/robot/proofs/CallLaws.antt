@@ -1,0 +1,60 @@
+-- What a function of the library leaves, from what the calls within it gave: the readings of a scheme and of a matrix, then what was made of them.
+-- Assumes nothing.
+use Prim.Native.Nat.{ℕ}
+use mathlib.Core.Path.{_≡_, ap, _∙_}
+use mathlib.Core.List.{List}
+use lib.ListN.{replicate}
+use Rattle.model.specs.Seats.{Matrix}
+use Rattle.model.specs.declared.Scheme.{Scheme}
+use Rattle.model.specs.declared.Things.{Things}
+use Rattle.records.specs.declared.Reading.the-variants.{Done, Refused}
+use Rattle.records.specs.declared.Writing.{Writing}
+use Rattle.scheme_bytes.specs.Read.{noScheme}
+use Rattle.scheme_bytes.specs.Answers.{readScheme}
+use Rattle.scheme_bytes.specs.declared.answers.SchemeAnswer.{SchemeAnswer}
+use Rattle.matrix_bytes.specs.Answers.{readMatrix}
+use Rattle.matrix_bytes.specs.declared.answers.MatrixAnswer.{MatrixAnswer}
+use Rattle.robot.specs.Library.{call, gives, givesWrote, givesRan, writingBy, wrote, noThings, afterScheme, withScheme, afterMatrix, withMatrix, notConverted, notRun}
+
+-- ---- what follows a reading, seen through what is left of it
+module _ {A L : Type 0} (left : A → L) (refused : ℕ → ℕ → ℕ → A) where
+  module _ (next : Scheme → ℕ → A) (bytes : List ℕ) (r : SchemeAnswer) (is : r ≡ readScheme bytes noScheme) where
+    with-scheme : afterScheme refused next (r .scheme) (r .answer) ≡ withScheme refused bytes next
+    unfolding withScheme
+    with-scheme = ap (λ (x : SchemeAnswer). afterScheme refused next (x .scheme) (x .answer)) is
+
+    pub scheme-read : {l : L} (n : ℕ) → r .answer ≡ Done n → l ≡ left (next (r .scheme) n) → l ≡ left (withScheme refused bytes next)
+    scheme-read n e f = f ∙ ap left (rw e at with-scheme)
+
+    pub scheme-refused : {l : L} (k at : ℕ) → r .answer ≡ Refused k at → l ≡ left (refused k 1 at) → l ≡ left (withScheme refused bytes next)
+    scheme-refused k at e f = f ∙ ap left (rw e at with-scheme)
+
+  module _ (next : Matrix → ℕ → A) (bytes : List ℕ) (s : Scheme) (things : Things) (none : things ≡ noThings) (r : MatrixAnswer) (cells : List ℕ)
+      (is : _≡_ {A = MatrixAnswer × List ℕ} (r, cells) (readMatrix bytes s things (replicate 2304 0))) where
+    with-matrix : afterMatrix refused next (r, cells) (r .answer) ≡ withMatrix refused s bytes next
+    unfolding withMatrix
+    with-matrix =
+        ap (λ (x : MatrixAnswer × List ℕ). afterMatrix refused next x (x .0 .answer))
+        (is ∙ ap (λ (t : Things). readMatrix bytes s t (replicate 2304 0)) none)
+
+    pub matrix-read : {l : L} (n : ℕ) → r .answer ≡ Done n → l ≡ left (next (record { things = r .things; cells = cells }) n) →
+        l ≡ left (withMatrix refused s bytes next)
+    matrix-read n e f = f ∙ ap left (rw e at with-matrix)
+
+    pub matrix-refused : {l : L} (k at : ℕ) → r .answer ≡ Refused k at → l ≡ left (refused k 2 at) → l ≡ left (withMatrix refused s bytes next)
+    matrix-refused k at e f = f ∙ ap left (rw e at with-matrix)
+
+-- ---- what is left beside the buffers
+module _ (report : List ℕ) (n : ℕ) (report′ : List ℕ) where
+  pub not-converted : (out : List ℕ) (k where′ at : ℕ) → _≡_ {A = ℕ × List ℕ} (n, report′) (gives report (call k where′ at 0 0)) →
+      _≡_ {A = ℕ × List ℕ × List ℕ} (n, out, report′) (givesWrote report (notConverted out k where′ at))
+  not-converted out k where′ at e = ap (λ (x : ℕ × List ℕ). (x .0, out, x .1)) e
+
+  pub not-run : (results out : List ℕ) (k where′ at : ℕ) → _≡_ {A = ℕ × List ℕ} (n, report′) (gives report (call k where′ at 0 0)) →
+      _≡_ {A = ℕ × List ℕ × List ℕ × List ℕ} (n, results, out, report′) (givesRan report (notRun results out k where′ at))
+  not-run results out k where′ at e = ap (λ (x : ℕ × List ℕ). (x .0, results, out, x .1)) e
+
+  pub told-wrote : (other : ℕ) (w : Writing) (out′ : List ℕ) (is : Writing × List ℕ) → _≡_ {A = Writing × List ℕ} (w, out′) is →
+      _≡_ {A = ℕ × List ℕ} (n, report′) (gives report (writingBy other w)) →
+      _≡_ {A = ℕ × List ℕ × List ℕ} (n, out′, report′) (givesWrote report (wrote other is))
+  told-wrote other w out′ is f e = ap (λ (x : ℕ × List ℕ). (x .0, out′, x .1)) e ∙ ap (λ (x : Writing × List ℕ). givesWrote report (wrote other x)) f

@@ -1,0 +1,70 @@
+-- An accepted matrix's bytes are at most 37,206: 6 of the head, 7 for each of at most 48 things, 16 for each of at most 48 times 48 cells.
+-- Assumes nothing.
+use Prim.Native.Nat.{ℕ, suc, _*_, _≤_}
+use native.Mathlib.Omega.{arith}
+use mathlib.Core.Bool.{Bool, true, false, cond}
+use mathlib.Core.List.{List, [], _∷_, _++_}
+use lib.Dec.{T, eqb, ltb}
+use lib.ListN.{length, length-append}
+use Rattle.rights.specs.declared.ThingType.{ThingType}
+use Rattle.model.specs.Scheme.{isSubject}
+use Rattle.model.specs.Seats.{Matrix, cell}
+use Rattle.model.specs.Accepted.{acceptedMatrix}
+use Rattle.model.specs.declared.Head.{Head}
+use Rattle.model.proofs.HeldLaws.{held}
+use Rattle.records.specs.Bytes.{recordBytes}
+use Rattle.records.proofs.BytesLaws.{length-record}
+use Rattle.matrix_bytes.specs.Content.{Thing, Cell, insert, rising, thingsOf, rowOf, rowsOf, cellsOf}
+use Rattle.matrix_bytes.specs.Write.{thingRecords, cellRecords, matrixBytes}
+use Rattle.matrix_bytes.proofs.WriteLaws.{length-things, length-cells}
+
+either : {A : Type 0} (b : Bool) (xs ys : List A) (n : ℕ) → length xs ≤ n → length ys ≤ n → length (cond b xs ys) ≤ n
+either true xs ys n p q = p
+either false xs ys n p q = q
+
+-- ---- things
+one-more : (t : Thing) (us : List Thing) → length (insert t us) ≤ suc (length us)
+unfolding insert
+one-more t [] = omega arith
+one-more t (u ∷ us) = either (ltb (t .id) (u .id)) _ _ _ (omega arith) (omega (arith, one-more t us))
+
+few-things : (ids : List ℕ) (types : List ThingType) → length (rising ids types) ≤ length ids
+unfolding rising
+few-things [] types = omega arith
+few-things (x ∷ xs) [] = omega arith
+few-things (x ∷ xs) (t ∷ ts) =
+    let n = few-things xs ts in
+    either (eqb x 0) _ _ _ (omega arith) (omega (arith, one-more (record { id = x; type = t }) (rising xs ts)))
+
+-- ---- cells
+module _ (m : Matrix) where
+  few-in-row : (x : ℕ) (ts : List Thing) → length (rowOf m x ts) ≤ length ts
+  unfolding rowOf
+  few-in-row x [] = omega arith
+  few-in-row x (t ∷ ts) = let n = few-in-row x ts in either (eqb (cell m x (t .id)) 0) _ _ _ (omega arith) (omega arith)
+
+  few-cells : (h : Head) (columns ts : List Thing) → length columns ≤ 48 → length (rowsOf h m columns ts) ≤ length ts * 48
+  unfolding rowsOf
+  few-cells h columns [] l = omega arith
+  few-cells h columns (t ∷ ts) l =
+      let row : List Cell = cond (isSubject h (t .type)) (rowOf m (t .id) columns) [] in
+      let a = either (isSubject h (t .type)) (rowOf m (t .id) columns) [] 48 (omega (arith, few-in-row (t .id) columns)) (omega arith) in
+      omega (arith, length-append row (rowsOf h m columns ts), few-cells h columns ts l)
+
+-- ---- all of it
+pub largest : (h : Head) (m : Matrix) → T (acceptedMatrix h m) → length (matrixBytes h m) ≤ 37206
+unfolding matrixBytes cellsOf thingsOf
+largest h m of =
+    let ts : List Thing = thingsOf m in
+    let cs : List Cell = cellsOf h m in
+    let front : List ℕ = recordBytes 3 (h .rights ∷ length ts ∷ []) in
+    let n : length ts ≤ 48 = omega (arith, few-things (m .things .ids) (m .things .types), held h m of .things .idRoom) in
+    omega (
+      arith,
+      length-append (front ++ thingRecords ts) (cellRecords cs),
+      length-append front (thingRecords ts),
+      length-record 3 (h .rights ∷ length ts ∷ []),
+      length-things ts,
+      length-cells cs,
+      few-cells m h ts ts n,
+    )

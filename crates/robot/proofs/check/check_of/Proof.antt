@@ -1,0 +1,66 @@
+-- A matrix is read against a scheme; its reading is told.
+-- Assumes nothing.
+use Rattle.robot.specs.Library.{gives, call, notRead, checkAgainst}
+use Rattle.robot.proofs.CallLaws.{matrix-read, matrix-refused}
+use borrow.Author.Needs.{needs}
+use Rattle.robot.proofs.check.check_of.Statement.{statement}
+use Rattle.robot.proofs.check.check_of.Tie as tie
+
+no-things-requires : tie.Need-no-things-requires
+no-things-requires c κs = search needs
+
+slice-aggregate-read-matrix : tie.Need-slice-aggregate-read-matrix
+slice-aggregate-read-matrix c = search needs
+
+read-matrix-requires : tie.Need-read-matrix-requires
+read-matrix-requires c κs = search needs
+
+enum-known-answer : tie.Need-enum-known-answer
+enum-known-answer c = search needs
+
+tell-requires : tie.Need-tell-requires
+tell-requires c κs = search needs
+
+enum-known-answer-2 : tie.Need-enum-known-answer-2
+enum-known-answer-2 c = search needs
+
+tell-requires-2 : tie.Need-tell-requires-2
+tell-requires-2 c κs = search needs
+
+same-length : tie.Need-same-length
+same-length c = search needs
+
+returns : tie.Need-returns
+unfolding checkAgainst
+returns c =
+    let t = c .before .before in
+    let a = t .before .before .before in
+    let r = a .before .before .before in
+    matrix-read (gives _) notRead (λ m k. call 0 0 k 0 0) _ _ _ (r .before .before .no-things .ensures) _ _ (r .read-matrix .ensures) _ (a .answer .given .1) (t .tell .ensures)
+
+same-length-2 : tie.Need-same-length-2
+same-length-2 c = search needs
+
+returns-2 : tie.Need-returns-2
+unfolding checkAgainst
+returns-2 c =
+    let t = c .before .before in
+    let a = t .before .before .before in
+    let r = a .before .before .before in
+    matrix-refused (gives _) notRead (λ m k. call 0 0 k 0 0) _ _ _ (r .before .before .no-things .ensures) _ _ (r .read-matrix .ensures) _ _ (a .answer2 .given .1) (t .tell2 .ensures)
+
+pub check-of-spec : {M : Type 1} → statement M
+check-of-spec =
+    tie.close
+    (tie.spec
+    no-things-requires
+    slice-aggregate-read-matrix
+    read-matrix-requires
+    enum-known-answer
+    tell-requires
+    enum-known-answer-2
+    tell-requires-2
+    same-length
+    returns
+    same-length-2
+    returns-2)

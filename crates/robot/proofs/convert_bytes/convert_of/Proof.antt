@@ -1,0 +1,82 @@
+-- A matrix is read against a scheme, then its converted bytes are written.
+-- Assumes nothing.
+use Rattle.robot.specs.Library.{givesWrote, notConverted, wrote, convertAgainst}
+use Rattle.robot.proofs.CallLaws.{matrix-read, matrix-refused, not-converted, told-wrote}
+use Rattle.convert.specs.Convert.{convertMatrixInto}
+use borrow.Author.Needs.{needs}
+use Rattle.robot.proofs.convert_bytes.convert_of.Statement.{statement}
+use Rattle.robot.proofs.convert_bytes.convert_of.Tie as tie
+
+no-things-requires : tie.Need-no-things-requires
+no-things-requires c κs = search needs
+
+slice-aggregate-read-matrix : tie.Need-slice-aggregate-read-matrix
+slice-aggregate-read-matrix c = search needs
+
+read-matrix-requires : tie.Need-read-matrix-requires
+read-matrix-requires c κs = search needs
+
+enum-told : tie.Need-enum-told
+enum-told c = search needs
+
+slice-aggregate-convert-matrix : tie.Need-slice-aggregate-convert-matrix
+slice-aggregate-convert-matrix c = search needs
+
+convert-matrix-requires : tie.Need-convert-matrix-requires
+convert-matrix-requires c κs = search needs
+
+tell-writing-requires : tie.Need-tell-writing-requires
+tell-writing-requires c κs = search needs
+
+enum-known-answer : tie.Need-enum-known-answer
+enum-known-answer c = search needs
+
+tell-requires : tie.Need-tell-requires
+tell-requires c κs = search needs
+
+same-length : tie.Need-same-length
+same-length c = search needs
+
+same-length-2 : tie.Need-same-length-2
+same-length-2 c = search needs
+
+returns : tie.Need-returns
+unfolding convertAgainst
+returns c =
+    let t = c .before .before in
+    let w = t .before .before .before .before in
+    let a = w .before .before .before in
+    let r = a .before .before .before .before in
+    matrix-read (givesWrote _) (notConverted _) (λ m k. wrote 1 (convertMatrixInto _ _ m)) _ _ _ (r .before .before .no-things .ensures) _ _ (r .read-matrix .ensures) _ (a .enum-told .given .1)
+    (told-wrote _ _ _ 1 _ _ _ (w .convert-matrix .ensures) (t .tell-writing .ensures))
+
+same-length-3 : tie.Need-same-length-3
+same-length-3 c = search needs
+
+returns-2 : tie.Need-returns-2
+unfolding convertAgainst
+returns-2 c =
+    let t = c .before .before in
+    let a = t .before .before .before in
+    let r = a .before .before .before .before in
+    matrix-refused (givesWrote _) (notConverted _) (λ m k. wrote 1 (convertMatrixInto _ _ m)) _ _ _ (r .before .before .no-things .ensures) _ _ (r .read-matrix .ensures) _ _ (a .answer .given .1)
+    (not-converted _ _ _ _ _ _ _ (t .tell .ensures))
+
+pub convert-of-spec : {M : Type 1} → statement M
+convert-of-spec =
+    tie.close
+    (tie.spec
+    no-things-requires
+    slice-aggregate-read-matrix
+    read-matrix-requires
+    enum-told
+    slice-aggregate-convert-matrix
+    convert-matrix-requires
+    tell-writing-requires
+    enum-known-answer
+    tell-requires
+    same-length
+    same-length-2
+    returns
+    same-length-3
+    returns-2)

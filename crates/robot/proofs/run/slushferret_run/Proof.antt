@@ -1,0 +1,68 @@
+-- A scheme is read, then a list of requests is run on a matrix against it.
+-- Assumes nothing.
+use Rattle.robot.specs.Library.{givesRan, notRun, runAgainst, runBytes}
+use Rattle.robot.proofs.CallLaws.{scheme-read, scheme-refused, not-run}
+use borrow.Author.Needs.{needs}
+use Rattle.robot.proofs.run.slushferret_run.Statement.{statement}
+use Rattle.robot.proofs.run.slushferret_run.Tie as tie
+
+scheme-of-requires : tie.Need-scheme-of-requires
+scheme-of-requires c κs = search needs
+
+enum-told : tie.Need-enum-told
+enum-told c = search needs
+
+run-of-requires : tie.Need-run-of-requires
+run-of-requires c κs = search needs
+
+enum-known-answer : tie.Need-enum-known-answer
+enum-known-answer c = search needs
+
+tell-requires : tie.Need-tell-requires
+tell-requires c κs = search needs
+
+same-length : tie.Need-same-length
+same-length c = search needs
+
+same-length-2 : tie.Need-same-length-2
+same-length-2 c = search needs
+
+same-length-3 : tie.Need-same-length-3
+same-length-3 c = search needs
+
+returns : tie.Need-returns
+unfolding runBytes
+returns c =
+    let t = c .before .before .before .before .before .before in
+    let a = t .before .before .before .before in
+    let r = a .before .before .before in
+    scheme-read (givesRan _) (notRun _ _) (λ s n. runAgainst _ _ _ _ s) _ _ (r .scheme-of .ensures) _ (a .enum-told .given .1)
+    (t .run-of .ensures)
+
+same-length-4 : tie.Need-same-length-4
+same-length-4 c = search needs
+
+returns-2 : tie.Need-returns-2
+unfolding runBytes
+returns-2 c =
+    let t = c .before .before in
+    let a = t .before .before .before in
+    let r = a .before .before .before in
+    scheme-refused (givesRan _) (notRun _ _) (λ s n. runAgainst _ _ _ _ s) _ _ (r .scheme-of .ensures) _ _ (a .answer .given .1)
+    (not-run _ _ _ _ _ _ _ _ (t .tell .ensures))
+
+pub slushferret-run-spec : {M : Type 1} → statement M
+slushferret-run-spec =
+    tie.close
+    (tie.spec
+    scheme-of-requires
+    enum-told
+    run-of-requires
+    enum-known-answer
+    tell-requires
+    same-length
+    same-length-2
+    same-length-3
+    returns
+    same-length-4
+    returns-2)

@@ -1,0 +1,2 @@
+-- What each function of the robots' library gives (`Library`).
+pub mod Library

@@ -1,0 +1,175 @@
+-- The robots' library: functions on bytes and numbers only. Each gives a number, 0 for success, and puts four numbers into a lent report: where the
+-- fault lies, its position, how many answers were stored, how many bytes were written. Assumes nothing.
+use Prim.Native.Nat.{ℕ}
+use mathlib.Core.Bool.{cond}
+use mathlib.Core.List.{List, [], _∷_}
+use lib.Dec.{leb, eqb}
+use lib.ListN.{length, replicate}
+use lib.Seq.{sets}
+use Rattle.model.specs.Request.{run, answers}
+use Rattle.model.specs.Seats.{Matrix, seats, noType}
+use Rattle.model.specs.declared.Scheme.{Scheme}
+use Rattle.model.specs.declared.Things.{Things}
+use Rattle.records.specs.Writing.{placed}
+use Rattle.records.specs.declared.Reading.{Reading}
+use Rattle.records.specs.declared.Reading.the-variants.{Done, Refused}
+use Rattle.records.specs.declared.Writing.{Writing}
+use Rattle.records.specs.declared.Writing.the-variants as writing
+use Rattle.scheme_bytes.specs.Read.{noScheme}
+use Rattle.scheme_bytes.specs.Answers.{readScheme}
+use Rattle.matrix_bytes.specs.Answers.{readMatrix}
+use Rattle.matrix_bytes.specs.Write.{matrixBytes}
+use Rattle.matrix_bytes.specs.declared.answers.MatrixAnswer.{MatrixAnswer}
+use Rattle.request_bytes.specs.Write.{writeRequest}
+use Rattle.engine.specs.List.{Listed, listOf}
+use Rattle.engine.specs.declared.answers.RunAnswer.{RunAnswer}
+use Rattle.engine.specs.declared.answers.RunAnswer.the-variants as ended
+use Rattle.robot.specs.declared.run.Needed.{Needed}
+use Rattle.convert.specs.Convert.{convertSchemeInto, convertMatrixInto}
+
+-- ---- what is given back
+
+-- the number, and the four numbers of the report
+pub record Called : Type 0 where
+  pub number : ℕ
+  pub report : List ℕ
+
+-- where a fault lies: 1 the scheme, 2 the matrix, 3 the list of requests, 4 the answers' buffer, 5 the output; 0 where there is none
+abbrev pub call : ℕ → ℕ → ℕ → ℕ → ℕ → Called
+call number where′ at count written = record { number = number; report = where′ ∷ at ∷ count ∷ written ∷ [] }
+
+-- the same with what a lent buffer then holds, and with two of them
+pub record Wrote : Type 0 where
+  pub called : Called
+  pub out : List ℕ
+
+pub record Ran : Type 0 where
+  pub called : Called
+  pub answers : List ℕ
+  pub out : List ℕ
+
+-- what a report holds afterwards: the first four of its numbers are put, as far as there is room
+unfoldable pub reported : List ℕ → Called → List ℕ
+reported report c = sets report 0 (c .report)
+
+-- what a function leaves behind with a report: its number, what the buffers hold, and what the report holds
+abbrev pub gives : List ℕ → Called → ℕ × List ℕ
+gives report c = (c .number, reported report c)
+
+abbrev pub givesWrote : List ℕ → Wrote → ℕ × List ℕ × List ℕ
+givesWrote report w = (w .called .number, w .out, reported report (w .called))
+
+abbrev pub givesRan : List ℕ → Ran → ℕ × List ℕ × List ℕ × List ℕ
+givesRan report r = (r .called .number, r .answers, r .out, reported report (r .called))
+
+-- a writing: 9 lies in the output, any other number in what the caller says
+abbrev pub writingBy : ℕ → Writing → Called
+writingBy other (writing.Done next) = call 0 0 0 0 next
+writingBy other (writing.Refused k) = call k (cond (eqb k 9) 5 other) 0 0 0
+
+abbrev pub wrote : ℕ → Writing × List ℕ → Wrote
+wrote other w = record { called = writingBy other (w .0); out = w .1 }
+
+-- ---- what is read first: a scheme, and a matrix of it, from bytes
+abbrev pub noThings : Things
+noThings = record { ids = replicate 48 0; types = replicate 48 noType }
+
+module _ {A : Type 0} (refused : ℕ → ℕ → ℕ → A) where
+  abbrev pub afterScheme : (Scheme → ℕ → A) → Scheme → Reading → A
+  afterScheme next s (Done n) = next s n
+  afterScheme next s (Refused k at) = refused k 1 at
+
+  unfoldable pub withScheme : List ℕ → (Scheme → ℕ → A) → A
+  withScheme scheme next = let r = readScheme scheme noScheme in afterScheme next (r .scheme) (r .answer)
+
+  abbrev pub afterMatrix : (Matrix → ℕ → A) → MatrixAnswer × List ℕ → Reading → A
+  afterMatrix next r (Done n) = next (record { things = r .0 .things; cells = r .1 }) n
+  afterMatrix next r (Refused k at) = refused k 2 at
+
+  unfoldable pub withMatrix : Scheme → List ℕ → (Matrix → ℕ → A) → A
+  withMatrix s matrix next = let r = readMatrix matrix s noThings (replicate 2304 0) in afterMatrix next r (r .0 .answer)
+
+-- ---- checking: 0 and the length of what was read, or the number, which of the two, and the position
+abbrev pub notRead : ℕ → ℕ → ℕ → Called
+notRead k where′ at = call k where′ at 0 0
+
+unfoldable pub checkScheme : List ℕ → Called
+checkScheme scheme = withScheme notRead scheme (λ s n. call 0 0 n 0 0)
+
+unfoldable pub checkAgainst : List ℕ → Scheme → Called
+checkAgainst matrix s = withMatrix notRead s matrix (λ m k. call 0 0 k 0 0)
+
+unfoldable pub checkMatrix : List ℕ → List ℕ → Called
+checkMatrix scheme matrix = withScheme notRead scheme (λ s n. checkAgainst matrix s)
+
+-- ---- converting: 20 to 22 lie in the scheme, 9 in the output
+abbrev pub notConverted : List ℕ → ℕ → ℕ → ℕ → Wrote
+notConverted out k where′ at = record { called = notRead k where′ at; out = out }
+
+unfoldable pub convertSchemeBytes : List ℕ → List ℕ → Wrote
+convertSchemeBytes scheme out = withScheme (notConverted out) scheme (λ s n. wrote 1 (convertSchemeInto out s))
+
+unfoldable pub convertAgainst : List ℕ → List ℕ → Scheme → Wrote
+convertAgainst matrix out s = withMatrix (notConverted out) s matrix (λ m k. wrote 1 (convertMatrixInto out s m))
+
+unfoldable pub convertMatrixBytes : List ℕ → List ℕ → List ℕ → Wrote
+convertMatrixBytes scheme matrix out = withScheme (notConverted out) scheme (λ s n. convertAgainst matrix out s)
+
+-- ---- running a list of requests: the answers, and the bytes of the matrix afterwards
+abbrev pub notRun : List ℕ → List ℕ → ℕ → ℕ → ℕ → Ran
+notRun results out k where′ at = record { called = notRead k where′ at; answers = results; out = out }
+
+-- the bytes of the matrix that a list leaves
+unfoldable pub bytesAfter : Scheme → Matrix → Listed → List ℕ
+bytesAfter s m l = matrixBytes (s .head) (run seats s m (l .requests))
+
+-- a record that can't be read ends the list; what came before is carried out
+abbrev pub endedBy : ℕ → ℕ → Reading → Called
+endedBy count written (Done next) = call 0 0 0 count written
+endedBy count written (Refused k at) = call k 3 at count written
+
+-- 9 where the answers or the new matrix don't fit, before anything is stored
+unfoldable pub runMatrix : Scheme → Matrix → Listed → List ℕ → List ℕ → Ran
+runMatrix s m l results out =
+    let bytes = bytesAfter s m l in
+    cond (leb (length (l .requests)) (length results))
+    (cond (leb (length bytes) (length out))
+    (record {
+      called = endedBy (length (l .requests)) (length bytes) (l .ending);
+      answers = placed results 0 (answers seats s m (l .requests));
+      out = placed out 0 bytes;
+    })
+    (notRun results out 9 5 0))
+    (notRun results out 9 4 0)
+
+unfoldable pub runAgainst : List ℕ → List ℕ → List ℕ → List ℕ → Scheme → Ran
+runAgainst matrix requests results out s = withMatrix (notRun results out) s matrix (λ m k. runMatrix s m (listOf requests) results out)
+
+unfoldable pub runBytes : List ℕ → List ℕ → List ℕ → List ℕ → List ℕ → Ran
+runBytes scheme matrix requests results out = withScheme (notRun results out) scheme (λ s n. runAgainst matrix requests results out s)
+
+-- ---- writing a request behind others: 4 above 8 ids, then 9; what is written is the position behind it
+unfoldable pub requestBytes : List ℕ → ℕ → ℕ → List ℕ → Wrote
+requestBytes out at command ids = wrote 3 (writeRequest out at command ids)
+
+-- ---- the answers of the inner functions
+
+-- how many bytes were written
+abbrev pub nextOf : Writing → ℕ
+nextOf (writing.Done next) = next
+nextOf (writing.Refused k) = 0
+
+-- how many answers a list was given, and what is told of it with so many bytes written
+abbrev pub countOf : RunAnswer → ℕ
+countOf (ended.Whole count) = count
+countOf (ended.Bad count k at) = count
+countOf (ended.Refused k) = 0
+
+abbrev pub endingBy : ℕ → RunAnswer → Called
+endingBy written (ended.Whole count) = call 0 0 0 count written
+endingBy written (ended.Bad count k at) = call k 3 at count written
+endingBy written (ended.Refused k) = call k 4 0 0 0
+
+-- what a run will take of the two buffers
+unfoldable pub neededBy : Scheme → Matrix → Listed → Needed
+neededBy s m l = record { answers = length (l .requests); bytes = length (bytesAfter s m l) }

@@ -1,0 +1,165 @@
+// A list of requests on a matrix in bytes, and a request's bytes.
+use crate::check::no_things;
+use crate::check::scheme_of;
+use crate::report::tell;
+use crate::report::tell_writing;
+use engine::RunAnswer;
+use model::Scheme;
+use model::Things;
+use records::Reading;
+use records::Writing;
+ghost use mathlib.Core.Path.{_≡_};
+ghost use mathlib.Core.List.{List};
+ghost use Prim.Native.Nat.{ℕ, _≤_};
+ghost use lib.Dec.{T};
+ghost use lib.ListN.{length};
+ghost use Rattle.model.specs.Accepted.{acceptedScheme, acceptedMatrix};
+ghost use Rattle.engine.specs.List.{listOf};
+ghost use Rattle.robot.specs.Library.{gives, givesWrote, givesRan, countOf, nextOf, endingBy, neededBy, bytesAfter, runMatrix, runAgainst, runBytes, requestBytes};
+
+// Every matrix's bytes fit into so many.
+const LARGEST: usize = 37206;
+
+// How many answers and how many bytes a run will give.
+pub struct Needed {
+    pub answers: usize,
+    pub bytes: usize,
+}
+
+// How many requests were answered.
+fn count_of(answer: RunAnswer) -> usize
+    ensures { λ r. ⌜ r ≡ countOf answer ⌝ }
+{
+    match answer {
+        RunAnswer::Whole { count } => count,
+        RunAnswer::Bad {
+            count,
+            number: _,
+            at: _,
+        } => count,
+        RunAnswer::Refused(_) => 0,
+    }
+}
+
+// How many bytes were written.
+fn next_of(answer: Writing) -> usize
+    ensures { λ r. ⌜ r ≡ nextOf answer ⌝ }
+{
+    match answer {
+        Writing::Done { next } => next,
+        Writing::Refused { number: _ } => 0,
+    }
+}
+
+// How a list ended, with so many bytes written.
+fn tell_ended(report: &mut [usize], answer: RunAnswer, written: usize) -> u8
+    ensures { λ r. ⌜ _≡_ {A = ℕ × List ℕ} (r, now (report .exit)) (gives (now (report .entry)) (endingBy written answer)) ⌝ }
+{
+    match answer {
+        RunAnswer::Whole { count } => tell(report, 0, 0, 0, count, written),
+        RunAnswer::Bad { count, number, at } => tell(report, number, 3, at, count, written),
+        RunAnswer::Refused(x) => tell(report, x, 4, 0, 0, 0),
+    }
+}
+
+// A run on a copy of the cells tells what it will give, before anything is stored.
+fn trial_of(s: Scheme, th: Things, cells: [u64; 2304], requests: &[u8]) -> Needed
+    requires { ⌜ T (acceptedScheme s) × T (acceptedMatrix (s .head) (record { things = th; cells = cells })) ⌝ }
+    ensures { λ r. ⌜ r ≡ neededBy s (record { things = th; cells = cells }) (listOf (now (requests .entry))) ⌝ }
+{
+    let mut trial = cells;
+    let ran = engine::run_quietly(s, th, &mut trial, requests);
+    let answer = ran.answer;
+    let answers = count_of(answer);
+    let things = ran.things;
+    let mut scratch = [0u8; 37206];
+    let bytes = next_of(matrix_bytes::write_matrix(&mut scratch, s, things, &trial));
+    Needed { answers, bytes }
+}
+
+// The answers, then the matrix afterwards, which there is room for.
+fn run_on(
+    s: Scheme,
+    th: Things,
+    cells: &mut [u64],
+    requests: &[u8],
+    answers: &mut [u8],
+    out: &mut [u8],
+    report: &mut [usize],
+) -> u8
+    requires { ⌜ T (acceptedScheme s) × T (acceptedMatrix (s .head) (record { things = th; cells = now cells })) × (length (bytesAfter s (record { things = th; cells = now cells }) (listOf (now requests))) ≤ length (now out)) ⌝ }
+    ensures { λ r. ⌜ _≡_ {A = ℕ × List ℕ × List ℕ × List ℕ} (r, now (answers .exit), now (out .exit), now (report .exit)) (givesRan (now (report .entry)) (runMatrix s (record { things = th; cells = now (cells .entry) }) (listOf (now (requests .entry))) (now (answers .entry)) (now (out .entry)))) ⌝ }
+{
+    let ran = engine::run_list(s, th, cells, requests, answers);
+    let answer = ran.answer;
+    let things = ran.things;
+    if let RunAnswer::Refused(_) = answer {
+        return tell_ended(report, answer, 0);
+    }
+    let written = next_of(matrix_bytes::write_matrix(out, s, things, cells));
+    tell_ended(report, answer, written)
+}
+
+// A run of a matrix in bytes. Only where the output might be too short is the run tried first.
+fn run_of(
+    s: Scheme,
+    matrix: &[u8],
+    requests: &[u8],
+    answers: &mut [u8],
+    out: &mut [u8],
+    report: &mut [usize],
+) -> u8
+    ensures { λ r. ⌜ _≡_ {A = ℕ × List ℕ × List ℕ × List ℕ} (r, now (answers .exit), now (out .exit), now (report .exit)) (givesRan (now (report .entry)) (runAgainst (now (matrix .entry)) (now (requests .entry)) (now (answers .entry)) (now (out .entry)) s)) ⌝ }
+{
+    let mut cells = [0u64; 2304];
+    let read = matrix_bytes::read_matrix(matrix, s, no_things(), &mut cells);
+    let answer = read.answer;
+    let things = read.things;
+    if let Reading::Refused { number, at } = answer {
+        return tell(report, number, 2, at, 0, 0);
+    }
+    if out.len() < LARGEST {
+        let need = trial_of(s, things, cells, requests);
+        if answers.len() < need.answers {
+            return tell(report, 9, 4, 0, 0, 0);
+        }
+        if out.len() < need.bytes {
+            return tell(report, 9, 5, 0, 0, 0);
+        }
+    }
+    run_on(s, things, &mut cells, requests, answers, out, report)
+}
+
+#[no_mangle]
+pub extern "C" fn slushferret_run(
+    scheme: &[u8],
+    matrix: &[u8],
+    requests: &[u8],
+    answers: &mut [u8],
+    out: &mut [u8],
+    report: &mut [usize],
+) -> u8
+    ensures { λ r. ⌜ _≡_ {A = ℕ × List ℕ × List ℕ × List ℕ} (r, now (answers .exit), now (out .exit), now (report .exit)) (givesRan (now (report .entry)) (runBytes (now (scheme .entry)) (now (matrix .entry)) (now (requests .entry)) (now (answers .entry)) (now (out .entry)))) ⌝ }
+{
+    let read = scheme_of(scheme);
+    let answer = read.answer;
+    let s = read.scheme;
+    match answer {
+        Reading::Done { next: _ } => run_of(s, matrix, requests, answers, out, report),
+        Reading::Refused { number, at } => tell(report, number, 1, at, 0, 0),
+    }
+}
+
+#[no_mangle]
+pub extern "C" fn slushferret_write_request(
+    command: u8,
+    ids: &[u16],
+    out: &mut [u8],
+    at: usize,
+    report: &mut [usize],
+) -> u8
+    ensures { λ r. ⌜ _≡_ {A = ℕ × List ℕ × List ℕ} (r, now (out .exit), now (report .exit)) (givesWrote (now (report .entry)) (requestBytes (now (out .entry)) at command (now (ids .entry)))) ⌝ }
+{
+    let written = request_bytes::write_request(out, at, command, ids);
+    tell_writing(report, 3, written)
+}

@@ -1,0 +1,92 @@
+//! The robots' library for Rust: schemes, matrices and lists of requests as bytes. What each function promises stands in
+//! `slushferret.h`; here a refusal is an error with its place, and the buffers' lengths can't be wrong.
+//!
+//! Nothing is allocated, and nothing is kept between two calls.
+#![no_std]
+
+mod foreign;
+mod refusal;
+
+pub use refusal::{Place, Refusal};
+
+use foreign::Report;
+
+/// Room for the longest of each.
+pub const SCHEME_BYTES: usize = 6633;
+pub const MATRIX_BYTES: usize = 37206;
+pub const REQUEST_BYTES: usize = 22;
+
+/// A list that was carried out.
+#[derive(Clone, Copy, Debug, PartialEq, Eq)]
+pub struct Run {
+    /// How many answers were stored.
+    pub answers: usize,
+    /// How many bytes the matrix afterwards has.
+    pub written: usize,
+    /// The record that can't be read, if one ended the list; what came before it is carried out.
+    pub ended_by: Option<Refusal>,
+}
+
+/// The scheme's length, if the bytes are one.
+pub fn check_scheme(scheme: &[u8]) -> Result<usize, Refusal> {
+    let mut report = Report::new();
+    let number = foreign::check_scheme(scheme, &mut report);
+    report.result(number).map(|()| report.position())
+}
+
+/// The matrix's length, if the bytes are one of this scheme.
+pub fn check_matrix(scheme: &[u8], matrix: &[u8]) -> Result<usize, Refusal> {
+    let mut report = Report::new();
+    let number = foreign::check_matrix(scheme, matrix, &mut report);
+    report.result(number).map(|()| report.position())
+}
+
+/// Carries out a list of requests: an answer each (0, or 10 to 17), and the bytes of the matrix afterwards. On an error
+/// both buffers are as they were.
+pub fn run(
+    scheme: &[u8],
+    matrix: &[u8],
+    requests: &[u8],
+    answers: &mut [u8],
+    out: &mut [u8],
+) -> Result<Run, Refusal> {
+    let mut report = Report::new();
+    let number = foreign::run(scheme, matrix, requests, answers, out, &mut report);
+    let ended_by = match report.result(number) {
+        Ok(()) => None,
+        Err(refusal) if refusal.place == Place::Requests => Some(refusal),
+        Err(refusal) => return Err(refusal),
+    };
+    Ok(Run {
+        answers: report.answers(),
+        written: report.written(),
+        ended_by,
+    })
+}
+
+/// Writes the converted scheme from the buffer's start on, and gives its length. On an error the buffer is as it was.
+pub fn convert_scheme(scheme: &[u8], out: &mut [u8]) -> Result<usize, Refusal> {
+    let mut report = Report::new();
+    let number = foreign::convert_scheme(scheme, out, &mut report);
+    report.result(number).map(|()| report.written())
+}
+
+/// Writes the converted matrix, given the scheme before its conversion, and gives its length. On an error the buffer is
+/// as it was.
+pub fn convert_matrix(scheme: &[u8], matrix: &[u8], out: &mut [u8]) -> Result<usize, Refusal> {
+    let mut report = Report::new();
+    let number = foreign::convert_matrix(scheme, matrix, out, &mut report);
+    report.result(number).map(|()| report.written())
+}
+
+/// Writes a request's record at a position, and gives the position behind it. On an error the buffer is as it was.
+pub fn write_request(
+    command: u8,
+    ids: &[u16],
+    out: &mut [u8],
+    at: usize,
+) -> Result<usize, Refusal> {
+    let mut report = Report::new();
+    let number = foreign::write_request(command, ids, out, at, &mut report);
+    report.result(number).map(|()| report.written())
+}

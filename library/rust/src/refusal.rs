@@ -1,0 +1,39 @@
+//! A refusal: the outline's number, and where the fault lies.
+
+use core::error::Error;
+use core::fmt;
+
+#[derive(Clone, Copy, Debug, PartialEq, Eq)]
+pub enum Place {
+    Scheme,
+    Matrix,
+    Requests,
+    /// The buffer for the answers is too short.
+    Answers,
+    /// The output buffer is too short.
+    Output,
+}
+
+#[derive(Clone, Copy, Debug, PartialEq, Eq)]
+pub struct Refusal {
+    /// The outline's number: 1 to 9, or 20 to 22.
+    pub number: u8,
+    pub place: Place,
+    /// The position of the record at fault; 0 where none is meant.
+    pub at: usize,
+}
+
+impl fmt::Display for Refusal {
+    fn fmt(&self, f: &mut fmt::Formatter) -> fmt::Result {
+        let Refusal { number, place, at } = self;
+        match place {
+            Place::Scheme => write!(f, "refused with {number}, in the scheme at byte {at}"),
+            Place::Matrix => write!(f, "refused with {number}, in the matrix at byte {at}"),
+            Place::Requests => write!(f, "refused with {number}, in the requests at byte {at}"),
+            Place::Answers => write!(f, "refused with {number}: too little room for the answers"),
+            Place::Output => write!(f, "refused with {number}: too little room for the output"),
+        }
+    }
+}
+
+impl Error for Refusal {}

@@ -1,0 +1,97 @@
+//! The outline's key example through the wrapper: each function once with success and once refused.
+
+use slushferret::{
+    check_matrix, check_scheme, convert_matrix, convert_scheme, run, write_request, Place, Refusal,
+};
+
+const SCHEME: [u8; 47] = [
+    5, 0, 1, 0, 4, 3, 3, 0, 2, 13, 0, 2, 0, 2, 0, 1, 1, 1, 0, 0, 1, 1, 1, 2, 1, 1, 17, 0, 2, 0, 2,
+    1, 2, 2, 1, 1, 0, 1, 0, 2, 0, 0, 1, 1, 3, 0, 1,
+];
+
+/// Things 5, 9, 12; cells [5, 9] = 1 and [9, 12] = 2.
+const MATRIX: [u8; 59] = [
+    2, 0, 3, 0, 4, 3, 3, 0, 4, 0, 5, 0, 0, 3, 0, 4, 0, 9, 0, 1, 3, 0, 4, 0, 12, 0, 2, 12, 0, 5, 0,
+    5, 0, 9, 0, 1, 0, 0, 0, 0, 0, 0, 0, 12, 0, 5, 0, 9, 0, 12, 0, 2, 0, 0, 0, 0, 0, 0, 0,
+];
+
+const RETIRE: u8 = 0;
+const LOAD: u8 = 1;
+
+fn refusal(number: u8, place: Place, at: usize) -> Refusal {
+    Refusal { number, place, at }
+}
+
+/// load, retire, load: 30 bytes.
+fn requests() -> [u8; 30] {
+    let mut bytes = [0; 30];
+    let at = write_request(LOAD, &[9, 12], &mut bytes, 0).unwrap();
+    let at = write_request(RETIRE, &[5, 9], &mut bytes, at).unwrap();
+    assert_eq!(write_request(LOAD, &[9, 12], &mut bytes, at), Ok(30));
+    bytes
+}
+
+#[test]
+fn checks() {
+    assert_eq!(check_scheme(&SCHEME), Ok(47));
+    assert_eq!(check_matrix(&SCHEME, &MATRIX), Ok(59));
+    assert_eq!(check_scheme(&[]), Err(refusal(1, Place::Scheme, 0)));
+    let cut = check_scheme(&SCHEME[..46]);
+    assert_eq!(cut, Err(refusal(1, Place::Scheme, 26)));
+    let cut = check_matrix(&SCHEME, &MATRIX[..58]);
+    assert_eq!(cut, Err(refusal(1, Place::Matrix, 43)));
+}
+
+#[test]
+fn office_and_robot_answer_alike() {
+    let (mut scheme, mut matrix) = ([0; 55], [0; 123]);
+    assert_eq!(convert_scheme(&SCHEME, &mut scheme), Ok(55));
+    assert_eq!(convert_matrix(&SCHEME, &MATRIX, &mut matrix), Ok(123));
+
+    let (mut answers, mut after) = ([99; 3], [0; 123]);
+    let office = run(&SCHEME, &MATRIX, &requests(), &mut answers, &mut after).unwrap();
+    assert_eq!((office.answers, office.written), (3, 75));
+    assert_eq!(answers, [0, 0, 14]);
+
+    let mut answers = [99; 3];
+    let robot = run(&scheme, &matrix, &requests(), &mut answers, &mut after).unwrap();
+    assert_eq!((robot.answers, robot.written), (3, 123));
+    assert_eq!(answers, [0, 0, 14]);
+}
+
+#[test]
+fn a_list_may_end_with_a_bad_record() {
+    let (mut answers, mut after) = ([99; 3], [0; 123]);
+    let list = &requests()[..25];
+    let ran = run(&SCHEME, &MATRIX, list, &mut answers, &mut after).unwrap();
+    assert_eq!((ran.answers, answers), (2, [0, 0, 99]));
+    assert_eq!(ran.ended_by, Some(refusal(1, Place::Requests, 20)));
+}
+
+#[test]
+fn refused_calls_store_nothing() {
+    let (mut answers, mut after) = ([99; 2], [99; 123]);
+    let ran = run(&SCHEME, &MATRIX, &requests(), &mut answers, &mut after);
+    assert_eq!(ran, Err(refusal(9, Place::Answers, 0)));
+    let mut short = [99; 74];
+    let ran = run(&SCHEME, &MATRIX, &requests(), &mut [0; 3], &mut short);
+    assert_eq!(ran, Err(refusal(9, Place::Output, 0)));
+    assert_eq!((answers, after, short), ([99; 2], [99; 123], [99; 74]));
+
+    let mut short = [99; 54];
+    let converted = convert_scheme(&SCHEME, &mut short);
+    assert_eq!(converted, Err(refusal(9, Place::Output, 0)));
+    let converted = convert_matrix(&SCHEME, &MATRIX, &mut short);
+    assert_eq!(converted, Err(refusal(9, Place::Output, 0)));
+    let written = write_request(LOAD, &[1; 9], &mut short, 0);
+    assert_eq!(written, Err(refusal(4, Place::Requests, 0)));
+    let written = write_request(LOAD, &[9, 12], &mut short, usize::MAX);
+    assert_eq!(written, Err(refusal(9, Place::Output, 0)));
+    assert_eq!(short, [99; 54]);
+}
+
+#[test]
+fn a_refusal_in_words() {
+    let words = check_scheme(&[]).unwrap_err().to_string();
+    assert_eq!(words, "refused with 1, in the scheme at byte 0");
+}

@@ -1,0 +1,65 @@
+//! The independent program's side, from bytes to bytes as the library's functions are.
+
+use independent::convert;
+use independent::engine::Dense;
+use independent::matrix::{read_matrix, write_matrix, Matrix};
+use independent::scheme::{read_scheme, write_scheme, Scheme};
+
+pub fn scheme(bytes: &[u8]) -> Scheme {
+    read_scheme(bytes).expect("a load is accepted").0
+}
+
+pub fn matrix(scheme_bytes: &[u8], bytes: &[u8]) -> (Scheme, Matrix) {
+    let scheme = scheme(scheme_bytes);
+    let matrix = read_matrix(bytes, &scheme).expect("a load is accepted");
+    (scheme, matrix)
+}
+
+pub fn convert_scheme(bytes: &[u8]) -> Vec<u8> {
+    let converted = convert::convert_scheme(&scheme(bytes)).expect("the load converts");
+    write_scheme(&converted)
+}
+
+pub fn convert_matrix(scheme_bytes: &[u8], bytes: &[u8]) -> Vec<u8> {
+    let (scheme, matrix) = matrix(scheme_bytes, bytes);
+    let converted = convert::convert_scheme(&scheme).expect("the load converts");
+    let matrix = convert::convert_matrix(&matrix, &scheme).expect("the load converts");
+    write_matrix(&matrix, &converted)
+}
+
+/// The answer, and the matrix afterwards.
+pub fn one_request(scheme_bytes: &[u8], matrix_bytes: &[u8], request: &[u8]) -> (u8, Vec<u8>) {
+    let (scheme, matrix) = matrix(scheme_bytes, matrix_bytes);
+    let mut dense = Dense::from_matrix(&matrix);
+    let mut answer = [0];
+    run_list(&scheme, &mut dense, request, &mut answer);
+    let after = write_matrix(&dense.to_matrix(&scheme), &scheme);
+    (answer[0], after)
+}
+
+/// Reads requests from the bytes without allocation, as a quick program would; how many there were.
+pub fn run_list(scheme: &Scheme, dense: &mut Dense, list: &[u8], answers: &mut [u8]) -> usize {
+    let (mut at, mut count) = (0, 0);
+    while let Some((command, ids, length)) = request(&list[at..]) {
+        let mut numbers = [0; 8];
+        for (number, id) in numbers.iter_mut().zip(ids.chunks_exact(2)) {
+            *number = u16::from_le_bytes([id[0], id[1]]);
+        }
+        answers[count] = dense.carry_out(scheme, command as usize, &numbers[..ids.len() / 2]);
+        count += 1;
+        at += length;
+    }
+    count
+}
+
+/// The command, the ids' bytes and the record's length; none at the end or where the record can't be read.
+fn request(left: &[u8]) -> Option<(u8, &[u8], usize)> {
+    let (front, rest) = left.split_first_chunk::<4>()?;
+    let length = usize::from(u16::from_le_bytes([front[0], front[1]]));
+    if u16::from_le_bytes([front[2], front[3]]) != 6 {
+        return None;
+    }
+    let ([command, count], ids) = rest.get(..length)?.split_first_chunk::<2>()?;
+    let is_whole = *count <= 8 && ids.len() == 2 * usize::from(*count);
+    is_whole.then_some((*command, ids, 4 + length))
+}

@@ -1,0 +1,59 @@
+//! The driver's input: each case in the form that tests/library/driver.c says.
+
+use std::io::{self, Write};
+use std::ops::Range;
+
+use independent::generate::{case, Case};
+
+use crate::Stop;
+
+/// Buffers of just the right length take many calls, so that only some cases try them.
+pub fn tries_edges(number: u64) -> bool {
+    number % 4 == 0
+}
+
+pub fn write(seed: u64, numbers: Range<u64>, mut out: impl Write) -> Result<(), Stop> {
+    for number in numbers {
+        let bytes = bytes(&case(seed, number), tries_edges(number));
+        if !sent(out.write_all(&bytes))? {
+            return Ok(());
+        }
+    }
+    sent(out.flush()).map(|_| ())
+}
+
+/// Whether there still is a reader: one that stops early, as `head` does, is no failure.
+fn sent(answer: io::Result<()>) -> Result<bool, Stop> {
+    match answer {
+        Ok(()) => Ok(true),
+        Err(error) if error.kind() == io::ErrorKind::BrokenPipe => Ok(false),
+        Err(error) => Err(Stop::Failed(format!("the cases can't be written: {error}"))),
+    }
+}
+
+fn bytes(case: &Case, edges: bool) -> Vec<u8> {
+    let mut bytes = Vec::new();
+    let lengths = [
+        case.scheme.len(),
+        case.matrix.len(),
+        case.requests.len(),
+        case.room,
+        usize::from(edges),
+        case.direct.len(),
+    ];
+    for length in lengths {
+        let length = u32::try_from(length).expect("the parts of a case are short");
+        bytes.extend(length.to_le_bytes());
+    }
+    bytes.extend(&case.scheme);
+    bytes.extend(&case.matrix);
+    bytes.extend(&case.requests);
+    for (command, ids) in &case.direct {
+        let count = u8::try_from(ids.len()).expect("a direct request has a few ids");
+        bytes.extend([*command, count]);
+        for id in ids {
+            bytes.extend(id.to_le_bytes());
+        }
+    }
+    bytes
+}

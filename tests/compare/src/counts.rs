@@ -1,0 +1,74 @@
+//! Counts what was compared, so that it shows what a comparison covers.
+
+use std::collections::BTreeMap;
+use std::fmt;
+
+use independent::refusal::{Fault, Found};
+
+use crate::list::Carried;
+use crate::told::{Call, Told};
+
+/// The outline's numbers.
+const LAST: u64 = 27;
+
+#[derive(Default)]
+pub struct Counts {
+    pub cases: u64,
+    pub results: u64,
+    /// What the library's functions gave, by number.
+    calls: BTreeMap<u64, u64>,
+    /// What requests were answered, by number.
+    answers: BTreeMap<u64, u64>,
+    faults: BTreeMap<Fault, u64>,
+}
+
+impl Counts {
+    /// A result that was compared.
+    pub fn told(&mut self, told: &Told) {
+        self.results += 1;
+        if !matches!(told.call, Call::Inputs) {
+            *self.calls.entry(told.numbers[1].1).or_default() += 1;
+        }
+    }
+
+    pub fn answer(&mut self, number: u8) {
+        *self.answers.entry(u64::from(number)).or_default() += 1;
+    }
+
+    pub fn reading<T>(&mut self, read: &Result<T, Found>) {
+        if let Err(found) = read {
+            *self.faults.entry(found.fault).or_default() += 1;
+        }
+    }
+
+    pub fn list(&mut self, carried: &Carried) {
+        for answer in &carried.answers {
+            self.answer(*answer);
+        }
+        if let Some(found) = carried.ending {
+            self.reading::<()>(&Err(found));
+        }
+    }
+}
+
+/// A line a count, the count first: so lines of several runs can be added up by what stands behind it.
+impl fmt::Display for Counts {
+    fn fmt(&self, f: &mut fmt::Formatter) -> fmt::Result {
+        writeln!(f, "{} cases", self.cases)?;
+        writeln!(f, "{} results", self.results)?;
+        for number in 0..=LAST {
+            let calls = self.calls.get(&number).unwrap_or(&0);
+            writeln!(f, "{calls} calls gave {number}")?;
+        }
+        for number in 0..=LAST {
+            let answers = self.answers.get(&number).unwrap_or(&0);
+            writeln!(f, "{answers} requests were answered {number}")?;
+        }
+        for fault in Fault::ALL {
+            let count = self.faults.get(fault).unwrap_or(&0);
+            let number = fault.number();
+            writeln!(f, "{count} readings met fault {number}: {}", fault.words())?;
+        }
+        Ok(())
+    }
+}

@@ -1,0 +1,90 @@
+//! The list of requests with all the buffers' lengths, then its first requests one by one.
+
+use independent::generate::Case;
+use independent::matrix::Matrix;
+use independent::refusal::Found;
+use independent::scheme::Scheme;
+
+use super::{Content, Refused, ANSWERS, LARGE, OUTPUT, REQUESTS, WHOLE};
+use crate::buffer::{stored, UNTOUCHED};
+use crate::counts::Counts;
+use crate::list::{carry, Carried, STEPS};
+use crate::told::{report, Call, Told};
+
+/// Gives the matrix after the first requests, for what is carried out on it later.
+pub fn expect<'a>(
+    case: &Case,
+    edges: bool,
+    content: &'a Content,
+    counts: &mut Counts,
+    told: &mut Vec<Told>,
+) -> Option<(&'a Scheme, Matrix)> {
+    let mut lengths = vec![(LARGE, LARGE), (LARGE, case.room), (case.room, LARGE)];
+    match (&content.scheme, &content.matrix) {
+        (Ok(scheme), Ok(matrix)) => {
+            let carried = carry(scheme, matrix, &case.requests);
+            counts.list(&carried);
+            if edges {
+                lengths.extend(edge_lengths(carried.answers.len(), carried.bytes.len()));
+            }
+            for (answers, out) in lengths {
+                told.push(run_list(answers, out, &carried));
+            }
+            run_steps(&carried, told);
+            Some((scheme, carried.matrix))
+        }
+        (Err(refused), _) | (_, Err(refused)) => {
+            for (answers, out) in lengths {
+                told.push(not_run(*refused, Call::RunList { answers, out }));
+            }
+            None
+        }
+    }
+}
+
+/// Just enough of both, and one less of either.
+fn edge_lengths(count: usize, written: usize) -> Vec<(usize, usize)> {
+    let mut lengths = vec![(count, written), (count, written - 1)];
+    if count > 0 {
+        lengths.push((count - 1, written));
+    }
+    lengths
+}
+
+fn run_list(answers: usize, out: usize, carried: &Carried) -> Told {
+    let call = Call::RunList { answers, out };
+    if answers < carried.answers.len() {
+        not_run(Refused::too_short(ANSWERS), call)
+    } else if out < carried.bytes.len() {
+        not_run(Refused::too_short(OUTPUT), call)
+    } else {
+        ran(call, &carried.answers, &carried.bytes, carried.ending)
+    }
+}
+
+fn run_steps(carried: &Carried, told: &mut Vec<Told>) {
+    for (request, (answer, bytes)) in carried.answers.iter().zip(&carried.steps).enumerate() {
+        told.push(ran(Call::RunStep { request }, &[*answer], bytes, None));
+    }
+    let request = carried.steps.len();
+    if request < STEPS && carried.ending.is_some() {
+        let call = Call::RunStep { request };
+        told.push(ran(call, &[], &carried.bytes, carried.ending_alone));
+    }
+}
+
+fn not_run(refused: Refused, call: Call) -> Told {
+    refused.told(call, WHOLE).answers(UNTOUCHED).out(UNTOUCHED)
+}
+
+/// A list that was carried out, to its end or to a record that can't be read.
+pub fn ran(call: Call, answers: &[u8], bytes: &[u8], ending: Option<Found>) -> Told {
+    let (number, place, at) = match ending {
+        Some(found) => (found.fault.number(), REQUESTS, found.at),
+        None => (0, 0, 0),
+    };
+    let report = report([place, at, answers.len(), bytes.len()], WHOLE);
+    Told::new(call, number, report)
+        .answers(stored(0, answers))
+        .out(stored(0, bytes))
+}

@@ -1,0 +1,137 @@
+//! One result: a call in words, and the numbers that the driver tells of it.
+
+use std::fmt;
+
+use crate::buffer::Buffer;
+
+/// What the library was asked, with the lengths lent.
+#[derive(Clone, Copy, Debug)]
+pub enum Call {
+    CheckScheme {
+        report: usize,
+    },
+    CheckMatrix,
+    ConvertScheme {
+        out: usize,
+    },
+    ConvertMatrix {
+        out: usize,
+    },
+    RunList {
+        answers: usize,
+        out: usize,
+    },
+    RunStep {
+        request: usize,
+    },
+    RunDirect {
+        request: usize,
+    },
+    WriteRequest {
+        request: usize,
+        out: usize,
+        at: usize,
+    },
+    Inputs,
+}
+
+impl Call {
+    /// The driver's number for it.
+    fn code(self) -> u64 {
+        match self {
+            Call::CheckScheme { .. } => 1,
+            Call::CheckMatrix => 2,
+            Call::ConvertScheme { .. } => 3,
+            Call::ConvertMatrix { .. } => 4,
+            Call::RunList { .. } | Call::RunStep { .. } | Call::RunDirect { .. } => 5,
+            Call::WriteRequest { .. } => 6,
+            Call::Inputs => 7,
+        }
+    }
+}
+
+impl fmt::Display for Call {
+    fn fmt(&self, f: &mut fmt::Formatter) -> fmt::Result {
+        match self {
+            Call::CheckScheme { report } => {
+                write!(f, "checking the scheme, with a report of {report} numbers")
+            }
+            Call::CheckMatrix => write!(f, "checking the matrix"),
+            Call::ConvertScheme { out } => write!(f, "converting the scheme into {out} bytes"),
+            Call::ConvertMatrix { out } => write!(f, "converting the matrix into {out} bytes"),
+            Call::RunList { answers, out } => write!(
+                f,
+                "running the list, with room for {answers} answers and {out} bytes"
+            ),
+            Call::RunStep { request } => {
+                write!(f, "running request {request} of the list by itself")
+            }
+            Call::RunDirect { request } => write!(f, "running the direct request {request}"),
+            Call::WriteRequest { request, out, at } => write!(
+                f,
+                "writing the direct request {request} at {at} of {out} bytes"
+            ),
+            Call::Inputs => write!(f, "after all calls"),
+        }
+    }
+}
+
+/// The numbers of a report: four are told, and the driver has two more as a guard.
+pub const REPORT: usize = 6;
+const UNTOLD: u64 = 0xA5A5_A5A5_A5A5_A5A5;
+
+/// The report's numbers where so many are lent.
+pub fn report(told: [usize; 4], lent: usize) -> [u64; REPORT] {
+    let mut report = [UNTOLD; REPORT];
+    for (place, number) in told.into_iter().enumerate().take(lent) {
+        report[place] = number as u64;
+    }
+    report
+}
+
+pub struct Told {
+    pub call: Call,
+    /// Each number with what it is.
+    pub numbers: Vec<(&'static str, u64)>,
+}
+
+impl Told {
+    pub fn new(call: Call, number: u8, report: [u64; REPORT]) -> Told {
+        let mut numbers = vec![("the call", call.code()), ("the number", u64::from(number))];
+        let names = [
+            "where the fault lies",
+            "the position",
+            "how many answers",
+            "how many bytes",
+            "the report's fifth number",
+            "the report's sixth number",
+        ];
+        numbers.extend(names.into_iter().zip(report));
+        Told { call, numbers }
+    }
+
+    pub fn answers(mut self, buffer: Buffer) -> Told {
+        self.numbers.extend([
+            ("the end of what was stored as answers", buffer.end),
+            ("the hash of the answers' buffer", buffer.hash),
+        ]);
+        self
+    }
+
+    pub fn out(mut self, buffer: Buffer) -> Told {
+        self.numbers.extend([
+            ("the end of what was stored as output", buffer.end),
+            ("the hash of the output", buffer.hash),
+        ]);
+        self
+    }
+
+    /// What was only lent to be read.
+    pub fn inputs(hash: u64) -> Told {
+        let call = Call::Inputs;
+        Told {
+            call,
+            numbers: vec![("the call", call.code()), ("the inputs' hash", hash)],
+        }
+    }
+}

@@ -1,0 +1,328 @@
+/* Calls the library on each case from standard input and tells every result on standard output, for tests/compare to hold
+ * against the independent program.
+ *
+ * A case: scheme's length, matrix's, list's, room, 1 if buffers of just the right length are to be tried, number of direct
+ * requests (4 bytes each); the bytes of the first three; then each direct request: command (1), ids (1), 2 bytes an id. A
+ * result: what was called, the number, all six numbers of the report, and for each lent buffer two numbers; 8 bytes a
+ * number. All little-endian.
+ *
+ * Buffers are filled with a pattern before each call. The two numbers of a buffer are the end of what no longer is the
+ * pattern, and a hash of all up to there: so they say every byte of it, with the guards on both sides. */
+#include "slushferret.h"
+
+long read(int file, void *bytes, size_t length);
+long write(int file, const void *bytes, size_t length);
+int memcmp(const void *one, const void *other, size_t length);
+void *memcpy(void *to, const void *from, size_t length);
+_Noreturn void _exit(int status);
+
+enum {
+    PART = 262144,  /* no part of a case is longer */
+    GUARD = 64,
+    ROOM = 80000,   /* no case has more room */
+    LARGE = 40000,  /* enough for every matrix, and for the answers to every list of a case */
+    STEPS = 60,     /* so many requests of a list are also carried out one by one */
+    REPORT = 6      /* four numbers are told; two more stand as a guard */
+};
+
+enum { CHECK_SCHEME = 1, CHECK_MATRIX, CONVERT_SCHEME, CONVERT_MATRIX, RUN, WRITE_REQUEST, INPUTS };
+
+struct part {
+    size_t length;
+    uint8_t bytes[PART];
+};
+
+struct buffer {
+    uint8_t bytes[GUARD + ROOM + GUARD];
+};
+
+static struct part scheme, matrix, requests, now; /* now: the matrix so far, one by one */
+static struct buffer answers, out, pattern;
+static size_t report[REPORT];
+
+static _Noreturn void stop(const char *why, size_t length) {
+    write(2, why, length);
+    _exit(2);
+}
+#define STOP(why) stop(why "\n", sizeof(why))
+
+/* ---- telling */
+
+static uint8_t said[65536];
+static size_t said_length;
+
+static void flush(void) {
+    for (size_t at = 0; at < said_length;) {
+        long done = write(1, said + at, said_length - at);
+        if (done <= 0) {
+            STOP("the driver can't write its results");
+        }
+        at += (size_t)done;
+    }
+    said_length = 0;
+}
+
+static void tell(uint64_t number) {
+    if (said_length == sizeof said) {
+        flush();
+    }
+    memcpy(said + said_length, &number, 8);
+    said_length += 8;
+}
+
+/* FNV-1a, 64 bits */
+static uint64_t hash(uint64_t from, const uint8_t *bytes, size_t length) {
+    for (size_t k = 0; k < length; k++) {
+        from = (from ^ bytes[k]) * 0x100000001b3u;
+    }
+    return from;
+}
+#define EMPTY 0xcbf29ce484222325u
+
+/* Tells a buffer of which so many bytes were lent, and fills it with the pattern again. */
+static void tell_buffer(struct buffer *buffer, size_t lent) {
+    size_t end = GUARD + lent + GUARD;
+    while (end >= 512 && memcmp(buffer->bytes + end - 512, pattern.bytes + end - 512, 512) == 0) {
+        end -= 512;
+    }
+    while (end > 0 && buffer->bytes[end - 1] == pattern.bytes[end - 1]) {
+        end--;
+    }
+    tell(end);
+    tell(hash(EMPTY, buffer->bytes, end));
+    memcpy(buffer->bytes, pattern.bytes, end);
+}
+
+static void tell_call(uint64_t what, uint8_t number) {
+    tell(what);
+    tell(number);
+    for (size_t k = 0; k < REPORT; k++) {
+        tell(report[k]);
+    }
+}
+
+static void clear_report(void) {
+    for (size_t k = 0; k < REPORT; k++) {
+        report[k] = 0xA5A5A5A5A5A5A5A5u;
+    }
+}
+
+/* ---- the calls, each with so many elements lent; those that can write give how many bytes of out are in use */
+
+static void check_scheme(size_t report_length) {
+    clear_report();
+    uint8_t number = slushferret_check_scheme(scheme.bytes, scheme.length, report, report_length);
+    tell_call(CHECK_SCHEME, number);
+}
+
+static void check_matrix(void) {
+    clear_report();
+    uint8_t number = slushferret_check_matrix(scheme.bytes, scheme.length, matrix.bytes, matrix.length, report, 4);
+    tell_call(CHECK_MATRIX, number);
+}
+
+static size_t convert_scheme(size_t lent) {
+    clear_report();
+    uint8_t number = slushferret_convert_scheme(scheme.bytes, scheme.length, out.bytes + GUARD, lent, report, 4);
+    tell_call(CONVERT_SCHEME, number);
+    tell_buffer(&out, lent);
+    return report[3];
+}
+
+static size_t convert_matrix(size_t lent) {
+    clear_report();
+    uint8_t number = slushferret_convert_matrix(scheme.bytes, scheme.length, matrix.bytes, matrix.length,
+                                                out.bytes + GUARD, lent, report, 4);
+    tell_call(CONVERT_MATRIX, number);
+    tell_buffer(&out, lent);
+    return report[3];
+}
+
+static void run(const uint8_t *list, size_t list_length, const struct part *on, size_t answers_lent, size_t out_lent,
+                struct part *after) {
+    clear_report();
+    uint8_t number = slushferret_run(scheme.bytes, scheme.length, on->bytes, on->length, list, list_length,
+                                     answers.bytes + GUARD, answers_lent, out.bytes + GUARD, out_lent, report, 4);
+    tell_call(RUN, number);
+    if (after) {
+        after->length = report[3] <= out_lent ? report[3] : 0;
+        memcpy(after->bytes, out.bytes + GUARD, after->length);
+    }
+    tell_buffer(&answers, answers_lent);
+    tell_buffer(&out, out_lent);
+}
+
+/* `copy` gets the record, where it was written */
+static uint8_t write_request(uint8_t command, const uint16_t *ids, size_t count, size_t lent, size_t at, uint8_t *copy) {
+    clear_report();
+    uint8_t number = slushferret_write_request(command, ids, count, out.bytes + GUARD, lent, at, report, 4);
+    tell_call(WRITE_REQUEST, number);
+    if (copy && number == 0) {
+        memcpy(copy, out.bytes + GUARD + at, 6 + 2 * count);
+    }
+    tell_buffer(&out, lent);
+    return number;
+}
+
+/* ---- reading cases */
+
+static uint8_t heard[65536];
+static size_t heard_length, heard_at;
+
+/* 0 at the end of the input */
+static int listen(void) {
+    long got = read(0, heard, sizeof heard);
+    if (got < 0) {
+        STOP("the driver can't read its cases");
+    }
+    heard_length = (size_t)got;
+    heard_at = 0;
+    return got > 0;
+}
+
+static void take(void *to, size_t length) {
+    uint8_t *bytes = to;
+    while (length > 0) {
+        if (heard_at == heard_length && !listen()) {
+            STOP("the driver's input ends inside a case");
+        }
+        size_t some = heard_length - heard_at < length ? heard_length - heard_at : length;
+        memcpy(bytes, heard + heard_at, some);
+        heard_at += some;
+        bytes += some;
+        length -= some;
+    }
+}
+
+static void take_part(struct part *part, uint32_t length) {
+    if (length > PART) {
+        STOP("a part of a case is longer than the driver takes");
+    }
+    part->length = length;
+    take(part->bytes, length);
+}
+
+/* ---- a case */
+
+/* with the case's room, with a large buffer, and where that worked with just enough and with one byte less */
+static void convert(size_t (*one)(size_t lent), size_t room, int edges) {
+    one(room);
+    size_t written = one(LARGE);
+    if (edges && written > 0) {
+        one(written);
+        one(written - 1);
+    }
+}
+
+/* The whole list with large buffers, with the case's room for either, and with just enough and one less of each.
+ * Gives whether it was carried out. */
+static int run_list(size_t room, int edges) {
+    const uint8_t *list = requests.bytes;
+    size_t length = requests.length;
+    run(list, length, &matrix, LARGE, LARGE, 0);
+    size_t count = report[2], written = report[3];
+    int carried_out = report[0] == SLUSHFERRET_IN_NOTHING || report[0] == SLUSHFERRET_IN_REQUESTS;
+    run(list, length, &matrix, LARGE, room, 0);
+    run(list, length, &matrix, room, LARGE, 0);
+    if (edges && carried_out) {
+        run(list, length, &matrix, count, written, 0);
+        run(list, length, &matrix, count, written - 1, 0);
+        if (count > 0) {
+            run(list, length, &matrix, count - 1, written, 0);
+        }
+    }
+    return carried_out;
+}
+
+/* The first requests of the list one by one, each a list of its own on the matrix that the one before left. */
+static void run_steps(void) {
+    size_t at = 0;
+    for (size_t k = 0; k < STEPS && at < requests.length; k++) {
+        const uint8_t *front = requests.bytes + at;
+        size_t left = requests.length - at;
+        size_t length = left < 4 ? left : 4 + (size_t)front[0] + 256 * (size_t)front[1];
+        if (length > left) {
+            length = left;
+        }
+        run(front, length, &now, 1, SLUSHFERRET_MATRIX_BYTES, &now);
+        if (report[0] != SLUSHFERRET_IN_NOTHING) {
+            return;
+        }
+        at += length;
+    }
+}
+
+/* A request handed in directly: written at the start, at the end and past the end of the room, at a position that no
+ * buffer has, and with room behind the one before; then carried out. Gives the position behind it. */
+static size_t direct(size_t room, size_t behind, int carried_out) {
+    uint8_t front[2];
+    uint16_t ids[256];
+    uint8_t record[2 * 256 + 6];
+    take(front, 2);
+    take(ids, 2 * (size_t)front[1]);
+    size_t length = 6 + 2 * (size_t)front[1];
+    write_request(front[0], ids, front[1], room, 0, 0);
+    if (length <= room) {
+        write_request(front[0], ids, front[1], room, room - length, 0);
+        write_request(front[0], ids, front[1], room, room - length + 1, 0);
+    }
+    write_request(front[0], ids, front[1], room, (size_t)-1, 0);
+    if (write_request(front[0], ids, front[1], LARGE, behind, record) != 0) {
+        return behind;
+    }
+    size_t next = report[3];
+    if (carried_out) {
+        run(record, length, &now, 1, SLUSHFERRET_MATRIX_BYTES, &now);
+    }
+    return next;
+}
+
+/* All is read by now; what the library was only lent to read must be as it was read. */
+static void tell_inputs(void) {
+    uint64_t all = hash(EMPTY, scheme.bytes, scheme.length);
+    all = hash(all, matrix.bytes, matrix.length);
+    tell(INPUTS);
+    tell(hash(all, requests.bytes, requests.length));
+}
+
+static void run_case(void) {
+    uint32_t head[6];
+    take(head, sizeof head);
+    take_part(&scheme, head[0]);
+    take_part(&matrix, head[1]);
+    take_part(&requests, head[2]);
+    size_t room = head[3];
+    int edges = head[4] == 1;
+    if (room > ROOM) {
+        STOP("a case has more room than the driver has");
+    }
+
+    check_scheme(room % 6);
+    check_matrix();
+    convert(convert_scheme, room, edges);
+    convert(convert_matrix, room, edges);
+    int carried_out = run_list(room, edges);
+    memcpy(now.bytes, matrix.bytes, matrix.length);
+    now.length = matrix.length;
+    if (carried_out) {
+        run_steps();
+    }
+    size_t behind = 0;
+    for (uint32_t k = 0; k < head[5]; k++) {
+        behind = direct(room, behind, carried_out);
+    }
+    tell_inputs();
+}
+
+int main(void) {
+    for (size_t k = 0; k < sizeof pattern.bytes; k++) {
+        pattern.bytes[k] = (uint8_t)(167 * k + 13);
+    }
+    answers = pattern;
+    out = pattern;
+    while (heard_at < heard_length || listen()) {
+        run_case();
+    }
+    flush();
+    return 0;
+}
