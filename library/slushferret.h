@@ -2,7 +2,7 @@
  *
  * Link with the archive that `rt staticlib robot` writes, target/staticlib/librobot.a (x86-64 Linux). It needs nothing
  * but memcpy and memset, allocates nothing, and keeps nothing between two calls. Of the stack slushferret_run takes the
- * most, some 150 KB (measured, not proved).
+ * most, some 135 KB (measured, not proved).
  *
  * What is said below is proved of the code in crates/robot (the definitions: crates/robot/specs/Library.antt), for every
  * input, however broken. The caller's part, which no proof can check:

@@ -2,6 +2,7 @@
 
 pub mod bytes;
 pub mod convert;
+pub mod edges;
 pub mod engine;
 pub mod generate;
 pub mod matrix;

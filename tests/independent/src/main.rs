@@ -7,6 +7,7 @@ use std::process::ExitCode;
 use std::{env, fs};
 
 use independent::convert::{convert_matrix, convert_scheme};
+use independent::edges;
 use independent::generate::case;
 use independent::matrix::{find_matrix, write_matrix, Matrix};
 use independent::print::{bad, list_matrix, list_scheme, play};
@@ -22,6 +23,8 @@ const EXPECTED: &str = "expected one of
                                            `ok SCHEME-BYTES MATRIX-BYTES`, `bad POSITION NUMBER` or `refused NUMBER`
   independent generate SEED COUNT FOLDER   a numbered folder for each case
   independent statistics SEED COUNT        how often each refusal comes up
+  independent edges stdin                  the cases of the project's program `edges`, as bytes
+  independent edges stdout                 what that program must print
 where SEED and COUNT are numbers from 0 to 18446744073709551615";
 
 fn main() -> ExitCode {
@@ -42,20 +45,24 @@ fn main() -> ExitCode {
             (Ok(seed), Ok(count)) => Ok(Statistics::of(seed, count).to_string()),
             _ => return wrong_call("SEED and COUNT must be numbers"),
         },
+        ["edges", "stdin"] => return put(&edges::stdin()),
+        ["edges", "stdout"] => Ok(edges::stdout()),
         [] => return wrong_call("no subcommand"),
         _ => return wrong_call(&format!("this isn't a call: {}", arguments.join(" "))),
     };
     match answer {
-        Ok(text) => {
-            // A reader that stops early, as `head` does, is no failure.
-            let _ = std::io::stdout().write_all(text.as_bytes());
-            ExitCode::SUCCESS
-        }
+        Ok(text) => put(text.as_bytes()),
         Err(message) => {
             eprintln!("{message}");
             ExitCode::FAILURE
         }
     }
+}
+
+fn put(bytes: &[u8]) -> ExitCode {
+    // A reader that stops early, as `head` does, is no failure.
+    let _ = std::io::stdout().write_all(bytes);
+    ExitCode::SUCCESS
 }
 
 fn wrong_call(what: &str) -> ExitCode {

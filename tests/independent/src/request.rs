@@ -30,7 +30,8 @@ pub fn read_request(input: &[u8], at: usize) -> Next {
 
 /// The same with the fault by name; none at the end.
 pub fn find_request(input: &[u8], at: usize) -> Result<Option<(Request, usize)>, Found> {
-    if at >= input.len() {
+    // Only the position at the end is the end; past it, no front is left (1).
+    if at == input.len() {
         return Ok(None);
     }
     let mut record = Record::read(input, at, REQUEST)?;

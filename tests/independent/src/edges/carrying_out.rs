@@ -1,0 +1,210 @@
+//! Requests and lists of them: 10 to 17 at their edges, a matrix that is full, seats that are taken again, and 9 and bad records of a list.
+
+use super::examples::{changed, key_matrix, key_scheme, KEY_MATRIX, LOAD, RETIRE};
+use super::{case, Case, Task};
+use crate::matrix::{write_matrix, Matrix};
+use crate::request::write_request;
+use crate::scheme::{write_scheme, Command, Operation, Scheme};
+
+pub fn cases() -> Vec<Case> {
+    [key_example(), creates(), destroys(), lists()].concat()
+}
+
+fn ask(label: &str, command: u8, ids: &[u16]) -> Case {
+    let ids = ids.to_vec();
+    case(label, Task::Request { command, ids })
+}
+
+fn totals(label: &str) -> Case {
+    case(label, Task::Totals)
+}
+
+fn write(label: &str, room: u16) -> Case {
+    case(label, Task::WriteMatrix { room })
+}
+
+/// The outline's requests in its order; then other edges of 11 to 14.
+fn key_example() -> Vec<Case> {
+    vec![
+        key_scheme("key-scheme-to-ask"),
+        key_matrix("key-matrix-to-ask"),
+        totals("key-totals"),
+        ask("key-load", LOAD, &[9, 12]),
+        ask("key-retire", RETIRE, &[5, 9]),
+        ask("key-load-after", LOAD, &[9, 12]),
+        ask("key-retire-9-9", RETIRE, &[9, 9]),
+        ask("key-retire-5-8", RETIRE, &[5, 8]),
+        ask("key-retire-5", RETIRE, &[5]),
+        ask("key-command-2", 2, &[5, 9]),
+        totals("key-totals-after"),
+        write("key-matrix-after", 75),
+        ask("retire-again", RETIRE, &[5, 9]),
+        ask("no-ids-of-two", RETIRE, &[]),
+        ask("three-ids-of-two", RETIRE, &[5, 9, 9]),
+        ask("nine-ids-of-two", RETIRE, &[9; 9]),
+        ask("ids-0-and-9", RETIRE, &[0, 9]),
+        ask("ids-5-and-0", RETIRE, &[5, 0]),
+        ask("ids-8-and-5", RETIRE, &[8, 5]),
+        ask("ids-9-and-8", RETIRE, &[9, 8]),
+        ask("ids-5-and-12", RETIRE, &[5, 12]),
+        ask("ids-of-65535", RETIRE, &[65_535, 65_535]),
+        case(
+            "no-cells-to-ask",
+            Task::ReadMatrix(changed(&KEY_MATRIX, &[], 27)),
+        ),
+        ask("retire-not-owned", RETIRE, &[5, 9]),
+        ask("load-not-signed", LOAD, &[9, 12]),
+        case(
+            "destroyer-of-two-keys",
+            Task::ReadScheme(write_scheme(&destroyer())),
+        ),
+        key_matrix("key-matrix-to-destroy"),
+        ask("destroy-9-9", 0, &[9, 9]),
+        totals("key-9-still-exists"),
+        write("key-9-still-written", 59),
+    ]
+}
+
+/// The key example's rights and types, with one command that destroys two keys.
+fn destroyer() -> Scheme {
+    let destroy = |parameter| Operation::Destroy { parameter };
+    let command = Command {
+        parameters: vec![1, 1],
+        tests: Vec::new(),
+        operations: vec![destroy(0), destroy(1)],
+    };
+    Scheme {
+        rights: 4,
+        types: 3,
+        subjects: 0b011,
+        commands: vec![command],
+    }
+}
+
+/// Types 0, a subject, and 1; command 0 creates one thing, 1 two, 2 destroys two, 3 creates one, enters, and destroys another.
+fn makers() -> Scheme {
+    let create = |parameter| Operation::Create { parameter };
+    let destroy = |parameter| Operation::Destroy { parameter };
+    let enter = |row, column| Operation::Enter {
+        right: 2,
+        row,
+        column,
+    };
+    let command = |parameters: &[u8], operations: &[Operation]| Command {
+        parameters: parameters.to_vec(),
+        tests: Vec::new(),
+        operations: operations.to_vec(),
+    };
+    Scheme {
+        rights: 3,
+        types: 2,
+        subjects: 1,
+        commands: vec![
+            command(&[1], &[create(0)]),
+            command(&[1, 0], &[create(0), create(1)]),
+            command(&[1, 1], &[destroy(0), destroy(1)]),
+            command(&[0, 1], &[create(0), enter(0, 0), enter(0, 1), destroy(1)]),
+        ],
+    }
+}
+
+/// Things 1 to a count; each third is a subject.
+fn things(count: u16) -> Vec<u8> {
+    let scheme = makers();
+    let mut matrix = Matrix::new();
+    for id in 1..=count {
+        matrix.create(&scheme, id, u8::from(id % 3 != 0));
+    }
+    write_matrix(&matrix, &scheme)
+}
+
+fn creates() -> Vec<Case> {
+    let matrix = |label: &str, count: u16| case(label, Task::ReadMatrix(things(count)));
+    vec![
+        case("makers", Task::ReadScheme(write_scheme(&makers()))),
+        matrix("things-48-read", 48),
+        ask("create-at-48", 0, &[100]),
+        ask("create-used-at-48", 0, &[7]),
+        ask("create-0-at-48", 0, &[0]),
+        ask("create-two-at-48", 1, &[100, 101]),
+        totals("totals-at-48"),
+        matrix("things-47-read", 47),
+        ask("create-two-at-47", 1, &[100, 101]),
+        totals("neither-exists"),
+        ask("create-same-twice-at-47", 1, &[100, 100]),
+        ask("create-used-second-at-47", 1, &[100, 7]),
+        totals("still-47"),
+        ask("create-at-47", 0, &[100]),
+        totals("now-48"),
+        ask("create-now-at-48", 0, &[101]),
+        matrix("things-46-read", 46),
+        ask("create-two-at-46", 1, &[100, 101]),
+        totals("two-more"),
+        ask("create-and-destroy-at-48", 3, &[65_535, 100]),
+    ]
+}
+
+/// 17 where two parameters are one thing; the seats of destroyed things are taken again, and the writing still goes by rising id.
+fn destroys() -> Vec<Case> {
+    vec![
+        case("things-9-read", Task::ReadMatrix(things(9))),
+        ask("destroy-2-2", 2, &[2, 2]),
+        totals("thing-2-still-exists"),
+        ask("destroy-2-and-a-subject", 2, &[2, 3]),
+        ask("destroy-1-4", 2, &[1, 4]),
+        totals("seven-things"),
+        ask("destroy-4-again", 2, &[4, 5]),
+        ask("create-entered-and-destroy", 3, &[300, 8]),
+        ask("create-then-4", 1, &[4, 200]),
+        totals("nine-things"),
+        write("seats-taken-again", 85),
+        write("seats-taken-again-short", 84),
+    ]
+}
+
+fn lists() -> Vec<Case> {
+    let requests = |ids: &[(u8, &[u16])]| -> Vec<u8> {
+        let record = |&(command, ids): &(u8, &[u16])| write_request(command, ids).expect("few ids");
+        ids.iter().flat_map(record).collect()
+    };
+    let run = |label: &str, list: &[u8], room: u16| {
+        let list = list.to_vec();
+        case(label, Task::List { list, room })
+    };
+    let three = requests(&[(LOAD, &[9, 12]), (RETIRE, &[5, 9]), (LOAD, &[9, 12])]);
+    let two = &three[..20];
+    let behind = |bytes: &[u8]| [two, bytes].concat();
+    vec![
+        key_scheme("key-scheme-of-lists"),
+        key_matrix("key-matrix-of-lists"),
+        run("list-empty", &[], 0),
+        run("list-empty-room-3", &[], 3),
+        run("list-short", &three, 2),
+        totals("list-short-totals"),
+        run("list-of-three", &three, 3),
+        totals("list-of-three-totals"),
+        run("list-of-three-again", &three, 5),
+        key_matrix("key-matrix-of-bad-lists"),
+        run("list-bad-short", &behind(&[0]), 1),
+        totals("list-bad-short-totals"),
+        run("list-bad-front", &behind(&[6, 0, 6]), 2),
+        totals("list-bad-front-totals"),
+        run("list-bad-kind", &behind(&[2, 0, 5, 0, 0, 0]), 2),
+        run("list-bad-leftover", &behind(&[3, 0, 6, 0, 0, 0, 0]), 4),
+        run("list-bad-nine-ids", &behind(&[2, 0, 6, 0, 0, 9]), 2),
+        run("list-bad-body", &behind(&[3, 0, 6, 0, 0, 0]), 2),
+        run("list-bad-first", &[1, 2, 3], 0),
+        run(
+            "list-all-refusals",
+            &requests(&[
+                (2, &[]),
+                (RETIRE, &[]),
+                (RETIRE, &[0, 9]),
+                (RETIRE, &[9, 9]),
+                (LOAD, &[9, 12]),
+                (RETIRE, &[5, 9]),
+            ]),
+            6,
+        ),
+    ]
+}

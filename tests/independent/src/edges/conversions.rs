@@ -1,0 +1,165 @@
+//! Conversions: 20, 21, 22 and 9 at their edges and in their order, the key example, and the largest that convert.
+
+use super::examples::{KEY_MATRIX, KEY_SCHEME, LOAD, RETIRE};
+use super::{case, largest, Case, Task};
+use crate::convert::{check, convert_matrix, convert_scheme};
+use crate::matrix::{read_matrix, write_matrix, Matrix};
+use crate::scheme::{read_scheme, write_scheme, Command, Operation, Scheme, Test};
+
+const ENTER: Operation = Operation::Enter {
+    right: 0,
+    row: 0,
+    column: 1,
+};
+const CREATE: Operation = Operation::Create { parameter: 2 };
+const DESTROY: Operation = Operation::Destroy { parameter: 0 };
+
+/// A label, n, and how each command ends after how many enters.
+type Row = (&'static str, u8, &'static [(usize, Option<Operation>)]);
+
+/// A command that creates or destroys stands last: 20 is looked for in all of the scheme before 21 and 22.
+const SCHEMES: &[Row] = &[
+    ("rights-32", 32, &[(1, None)]),
+    ("rights-33", 33, &[(1, None)]),
+    ("rights-64", 64, &[(1, None)]),
+    ("operations-16", 4, &[(1, None), (16, None)]),
+    ("operations-17", 4, &[(1, None), (17, None)]),
+    ("create", 4, &[(1, None), (0, Some(CREATE))]),
+    ("destroy", 4, &[(1, None), (0, Some(DESTROY))]),
+    ("rights-33-and-create", 33, &[(1, None), (0, Some(CREATE))]),
+    ("17-and-destroy", 4, &[(17, None), (1, Some(DESTROY))]),
+    ("rights-33-and-17", 33, &[(17, None)]),
+    ("all-three", 33, &[(17, None), (0, Some(CREATE))]),
+];
+
+pub fn cases() -> Vec<Case> {
+    let mut cases = Vec::new();
+    for &(label, rights, commands) in SCHEMES {
+        let scheme = scheme(rights, commands);
+        let matrix = matrix(&scheme);
+        cases.extend(converted(&format!("convert-{label}"), &scheme, &matrix));
+    }
+    cases.extend(key_example());
+    cases.extend(largest());
+    cases
+}
+
+/// Types 0, a subject, and 1; each command tests the last right for absence and presence.
+fn scheme(rights: u8, commands: &[(usize, Option<Operation>)]) -> Scheme {
+    let right = rights - 1;
+    let test = |present| Test {
+        present,
+        right,
+        row: 0,
+        column: 1,
+    };
+    let command = |&(enters, last): &(usize, Option<Operation>)| {
+        let mut operations = vec![ENTER; enters];
+        operations.extend(last);
+        Command {
+            parameters: vec![0, 1, 1],
+            tests: vec![test(false), test(true)],
+            operations,
+        }
+    };
+    Scheme {
+        rights,
+        types: 2,
+        subjects: 1,
+        commands: commands.iter().map(command).collect(),
+    }
+}
+
+/// Two subjects and an object; the first and the last right stand in one cell.
+fn matrix(scheme: &Scheme) -> Matrix {
+    let mut matrix = Matrix::new();
+    for (id, kind) in [(1, 0), (2, 0), (300, 1)] {
+        matrix.create(scheme, id, kind);
+    }
+    matrix.set_cell(2, 300, 1 | 1 << (scheme.rights - 1));
+    matrix
+}
+
+/// Scheme and matrix read, then converted: into just enough and into a byte less, or, where that is refused, into nothing, since 9 comes last.
+fn converted(label: &str, scheme: &Scheme, matrix: &Matrix) -> Vec<Case> {
+    let mut cases = vec![
+        case(
+            format!("{label}-scheme-read"),
+            Task::ReadScheme(write_scheme(scheme)),
+        ),
+        case(
+            format!("{label}-matrix-read"),
+            Task::ReadMatrix(write_matrix(matrix, scheme)),
+        ),
+    ];
+    let to_scheme =
+        |end: &str, room: u16| case(format!("{label}-scheme{end}"), Task::ConvertScheme { room });
+    let to_matrix =
+        |end: &str, room: u16| case(format!("{label}-matrix{end}"), Task::ConvertMatrix { room });
+    if check(scheme) != 0 {
+        cases.extend([to_scheme("", 0), to_matrix("", 0)]);
+        return cases;
+    }
+    let (new_scheme, new_matrix) = bytes(scheme, matrix);
+    let (scheme_room, matrix_room) = (new_scheme.len() as u16, new_matrix.len() as u16);
+    cases.extend([
+        to_scheme("", scheme_room),
+        to_scheme("-short", scheme_room - 1),
+        to_matrix("", matrix_room),
+        to_matrix("-short", matrix_room - 1),
+    ]);
+    cases
+}
+
+/// The converted scheme's and the converted matrix's bytes.
+fn bytes(scheme: &Scheme, matrix: &Matrix) -> (Vec<u8>, Vec<u8>) {
+    let new_scheme = convert_scheme(scheme).expect("it converts");
+    let new_matrix = convert_matrix(matrix, scheme).expect("it converts");
+    let new_matrix = write_matrix(&new_matrix, &new_scheme);
+    (write_scheme(&new_scheme), new_matrix)
+}
+
+/// Converted to 55 bytes and 123; then load, retire, load as a robot carries them out.
+fn key_example() -> Vec<Case> {
+    let (scheme, _) = read_scheme(&KEY_SCHEME).expect("the key example");
+    let matrix = read_matrix(&KEY_MATRIX, &scheme).expect("the key example");
+    let mut cases = converted("convert-key", &scheme, &matrix);
+    let (new_scheme, new_matrix) = bytes(&scheme, &matrix);
+    let ask = |label: &str, command: u8, ids: [u16; 2]| {
+        let ids = ids.to_vec();
+        case(label, Task::Request { command, ids })
+    };
+    cases.extend([
+        case("robot-scheme", Task::ReadScheme(new_scheme)),
+        case("robot-matrix", Task::ReadMatrix(new_matrix)),
+        ask("robot-load", LOAD, [9, 12]),
+        ask("robot-retire", RETIRE, [5, 9]),
+        ask("robot-load-after", LOAD, [9, 12]),
+        case("robot-matrix-after", Task::WriteMatrix { room: 123 }),
+        case("robot-totals", Task::Totals),
+        case(
+            "robot-scheme-converted-twice",
+            Task::ConvertScheme { room: 100 },
+        ),
+    ]);
+    cases
+}
+
+/// 32 commands of 16 operations over 32 rights convert to the most bytes; and 48 subjects, with all cells filled and with all empty.
+fn largest() -> Vec<Case> {
+    let scheme = largest::scheme(32, 16);
+    let full = largest::matrix(&scheme, some_rights);
+    let empty = largest::matrix(&scheme, |_, _| 0);
+    let mut cases = converted("convert-largest", &scheme, &full);
+    cases.extend(converted("convert-empty", &scheme, &empty));
+    cases
+}
+
+/// Other rights in each cell, never none; all 32 in one.
+fn some_rights(row: u16, column: u16) -> u64 {
+    if (row, column) == (48, 48) {
+        return 0xFFFF_FFFF;
+    }
+    let place = u64::from(row) * 48 + u64::from(column);
+    (place * 2_654_435_761) % 0xFFFF_FFFF + 1
+}
