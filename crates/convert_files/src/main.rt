@@ -60,15 +60,16 @@ fn write_new(path: &[u8], bytes: &[u8]) -> bool {
     false
 }
 
-fn rename_to(from: &[u8], to: &[u8], length: usize) {
+fn rename_to(from: &[u8], to: &[u8], length: usize) -> bool {
     if os::rename(from, to) != 0 {
         os::fail(to);
-        return;
+        return false;
     }
     say(to);
     say(b": ");
     say_number(length);
     say(b" bytes\n");
+    true
 }
 
 fn write_both(scheme: &[u8], matrix: &[u8]) {
@@ -78,8 +79,9 @@ fn write_both(scheme: &[u8], matrix: &[u8]) {
     if !write_new(b"robot-matrix.bin.new", matrix) {
         return;
     }
-    rename_to(b"robot-scheme.bin.new", b"robot-scheme.bin", scheme.len());
-    rename_to(b"robot-matrix.bin.new", b"robot-matrix.bin", matrix.len());
+    if rename_to(b"robot-scheme.bin.new", b"robot-scheme.bin", scheme.len()) {
+        rename_to(b"robot-matrix.bin.new", b"robot-matrix.bin", matrix.len());
+    }
 }
 
 // The converted matrix beside the converted scheme; only where both are there is anything written.
