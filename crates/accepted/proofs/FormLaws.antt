@@ -1,7 +1,7 @@
 -- A list of any stated length is no longer than its array.
 -- Assumes nothing.
 use Prim.Native.Nat.{ℕ, min, _<_}
-use mathlib.Core.Path.{_≡_, ap, sym, _∙_}
+use mathlib.Core.Path.{_≡_, ap, _∙_}
 use mathlib.Core.List.{List, reverse}
 use native.Mathlib.Omega.{arith}
 use lib.ListN.{length, take}

@@ -1,30 +1,23 @@
 -- What each turn of a loop over a matrix's seats or places decides, and what is left at the end. Over plain lists and numbers, so that a
 -- function's proof names few places of its context. Assumes nothing.
-use Prim.Native.Nat.{ℕ, _+_, _*_, _/_, _%_, _^_, _≤_, _<_}
-use mathlib.Core.Path.{_≡_, sym, _∙_}
+use Prim.Native.Nat.{ℕ, _+_, _/_, _%_, _^_, _≤_, _<_}
+use mathlib.Core.Path.{_≡_, refl}
 use mathlib.Core.Bool.{Bool, true, false, not, cond, _&&_, _||_}
-use mathlib.Core.List.{List, [], _∷_, map}
-use native.Mathlib.Nat.{one-mul, lt-of-lt-of-le}
+use mathlib.Core.List.{List}
 use native.Mathlib.Numerals.{add-one}
 use native.Mathlib.Omega.{arith}
-use lib.Dec.{eqb, leb, ltb, lit<}
-use lib.ListN.{length, length-map, getD, drop, drop-of-length-le}
-use lib.Pow.{pow-mono, shl-exact}
-use lib.Seq.{drop-cons}
+use lib.Dec.{eqb, leb, ltb}
+use lib.ListN.{length, getD, drop}
+use lib.Pow.{pow-pos}
 use mir.Syntax.{w16}
 use mir.Val.{Fits}
 use borrow.Author.Tests.{lt-ltb, le-leb, ne-eqb}
+use Rattle.rights.specs.Sets.{within}
 use Rattle.model.specs.Seats.{among, noType}
 use Rattle.model.specs.Accepted.{apart, acceptedSeats, standing, acceptedPlaces, zeroType}
 use Rattle.model.specs.declared.Head.{Head}
+use Rattle.accepted.proofs.Walks.{turn, ended}
 use Rattle.model.specs.declared.Things.{Things}
-
-module _ {A : Type 0} (l : List A) (n : ℕ) (full : length l ≡ n) (i : ℕ) where
-  turn : (d : A) → i < n → drop i l ≡ getD l i d ∷ drop (i + 1) l
-  turn d h = let k : i < length l = omega arith in rw (add-one, drop-cons l i d k)
-
-  ended : n ≤ i → drop i l ≡ []
-  ended h = drop-of-length-le l {i = i} (omega arith)
 
 -- ---- the ids
 
@@ -81,6 +74,22 @@ module _ (h : Head) (th : Things) (i : ℕ) where
 
 abbrev pub placeFine : Head → Things → List ℕ → ℕ → Bool
 placeFine h th cells k = cond (standing h th (k / 48) (k % 48)) (ltb (getD cells k 0) (2 ^ h .rights)) (eqb (getD cells k 0) 0)
+
+module _ (h : Head) (th : Things) (cells : List ℕ) (k : ℕ) where
+  -- an empty cell is fine whether or not it stands
+  pub place-empty : getD cells k 0 ≡ 0 → placeFine h th cells k ≡ true
+  place-empty e = rw (e, lt-ltb 0 (2 ^ h .rights) (pow-pos (h .rights))) (either (standing h th (k / 48) (k % 48)))
+    where
+      either : (b : Bool) → cond b true true ≡ true
+      either true = refl
+      either false = refl
+
+  pub place-bare : standing h th (k / 48) (k % 48) ≡ false → (getD cells k 0 ≡ 0 → ⊥) → placeFine h th cells k ≡ false
+  place-bare e n = rw (e, ne-eqb (getD cells k 0) 0 n)
+
+  pub place-stands : standing h th (k / 48) (k % 48) ≡ true → (b : Bool) → within (h .rights) (getD cells k 0) ≡ b → placeFine h th cells k ≡ b
+  unfolding within
+  place-stands e b f = rw (e, f)
 
 module _ (h : Head) (th : Things) (cells : List ℕ) (full : length cells ≡ 2304) (k : ℕ) where
   pub places-turn :

@@ -2,7 +2,7 @@
 -- Assumes nothing.
 use Prim.Native.Nat.{ℕ, _+_, _-_, min, _≤_, _<_}
 use mathlib.Core.Path.{_≡_, refl, sym, ap, _∙_}
-use mathlib.Core.Bool.{Bool, true, false, _||_, or-false}
+use mathlib.Core.Bool.{Bool, true, false, _&&_, _||_, and-true, and-assoc, or-false}
 use mathlib.Core.List.{List, [], _∷_, _++_, map, reverse, reverseAux}
 use native.Mathlib.Decide.{decLe}
 use native.Mathlib.Omega.{arith}
@@ -17,32 +17,40 @@ use Rattle.model.specs.Accepted.{padded}
 pub long : (X Y : Type 0) (f : X → Y) (l : List X) (n : ℕ) → length (map f l) ≡ n → length l ≡ n
 long X Y f l n e = sym (length-map l f) ∙ e
 
--- the answer w is what F makes, at place i, of the elements from there on
+-- ---- one turn of a loop over a list, and its end
+module _ {A : Type 0} (l : List A) (n : ℕ) (full : length l ≡ n) (i : ℕ) where
+  pub turn : (d : A) → i < n → drop i l ≡ getD l i d ∷ drop (i + 1) l
+  turn d h = let k : i < length l = omega arith in rw (add-one, drop-cons l i d k)
+
+  pub ended : n ≤ i → drop i l ≡ []
+  ended h = drop-of-length-le l {i = i} (omega arith)
+
+-- the same for the used part of an array
+module _ {A : Type 0} (l : List A) (n : ℕ) (fits : n ≤ length l) (i : ℕ) where
+  pub turn-used : (d : A) → i < n → drop i (take n l) ≡ getD l i d ∷ drop (i + 1) (take n l)
+  turn-used d h = turn (take n l) n (length-take-le n l fits) i d h ∙ rw (getD-take n l i d h)
+
+  pub ended-used : n ≤ i → drop i (take n l) ≡ []
+  ended-used h = ended (take n l) n (length-take-le n l fits) i h
+
+-- ---- the walk: the answer w is what F makes, at place i, of the elements from there on
 pub record Walk {A B : Type 0} (F : ℕ → List A → B) (l : List A) (n : ℕ) (w : B) (i : ℕ) : Type 0 where
   pub fits : n ≤ length l
   pub left : F i (drop i (take n l)) ≡ w
-
-turn : {A : Type 0} (l : List A) (n i : ℕ) (d : A) → n ≤ length l → i < n → drop i (take n l) ≡ getD l i d ∷ drop (i + 1) (take n l)
-turn l n i d fits h =
-    let e : length (take n l) ≡ n = length-take-le n l fits in
-    let k : i < length (take n l) = omega arith in
-    rw (drop-cons (take n l) i d k, getD-take n l i d h, add-one i)
 
 module _ {A B : Type 0} {F : ℕ → List A → B} {l : List A} {n : ℕ} {w : B} where
   pub start : (m : ℕ) → length l ≡ m → n ≤ m → F 0 (take n l) ≡ w → Walk F l n w 0
   start m e h f = record { fits = omega arith; left = f }
 
   module _ {i : ℕ} (v : Walk F l n w i) where
-    pub on : (d : A) → i < n → ((xs : List A) → F (i + 1) xs ≡ F i (getD l i d ∷ xs)) → Walk F l n w (i + 1)
-    on d h step = record { fits = v .fits; left = step _ ∙ sym (ap (F i) (turn l n i d (v .fits) h)) ∙ v .left }
+    pub on : {G : ℕ → List A → B} → (d : A) → i < n → ((xs : List A) → G (i + 1) xs ≡ F i (getD l i d ∷ xs)) → Walk G l n w (i + 1)
+    on d h step = record { fits = v .fits; left = step _ ∙ sym (ap (F i) (turn-used l n (v .fits) i d h)) ∙ v .left }
 
     pub out : (d : A) (b : B) → i < n → ((xs : List A) → b ≡ F i (getD l i d ∷ xs)) → b ≡ w
-    out d b h stop = stop _ ∙ sym (ap (F i) (turn l n i d (v .fits) h)) ∙ v .left
+    out d b h stop = stop _ ∙ sym (ap (F i) (turn-used l n (v .fits) i d h)) ∙ v .left
 
     pub end : n ≤ i → F i [] ≡ w
-    end h =
-        let e : length (take n l) ≡ n = length-take-le n l (v .fits) in
-        sym (ap (F i) (drop-of-length-le (take n l) {i = i} (omega arith))) ∙ v .left
+    end h = sym (ap (F i) (ended-used l n (v .fits) i h)) ∙ v .left
 
 -- ---- one turn of the walks with a bool
 module _ {A : Type 0} (f : A → Bool) (x : A) where
@@ -61,6 +69,19 @@ module _ {A : Type 0} (f : A → Bool) (x : A) where
   pub all-out : f x ≡ false → (xs : List A) → false ≡ all f (x ∷ xs)
   unfolding all
   all-out e xs = rw e
+
+-- ---- a walk to the end, with the answer so far
+pub record Carried {A : Type 0} (f : A → Bool) (l : List A) (n : ℕ) (w b : Bool) (i : ℕ) : Type 0 where
+  pub walk : Walk (λ j xs. b && all f xs) l n w i
+
+module _ {A : Type 0} {f : A → Bool} {l : List A} {n : ℕ} {w b : Bool} {i : ℕ} (v : Carried f l n w b i) where
+  pub carried : (d : A) (r : Bool) → i < n → r ≡ f (getD l i d) → Carried f l n w (b && r) (i + 1)
+  unfolding all
+  carried d r h e = record { walk = on (v .walk) d h (λ xs. rw e (and-assoc b (f (getD l i d)) (all f xs))) }
+
+  pub arrived : n ≤ i → b ≡ w
+  unfolding all
+  arrived h = sym (and-true b) ∙ end (v .walk) h
 
 -- ---- a list turned round
 module _ {A : Type 0} where

@@ -85,6 +85,7 @@ fn is_standing(h: Head, th: Things, i: usize, j: usize) -> bool
     h.subjects.has(t)
 }
 
+// An empty cell may be anywhere, and most are: the things are looked at only for the others.
 fn places_accepted(h: Head, th: Things, cells: &[u64]) -> bool
     requires { ⌜ length (now cells) ≡ 2304 ⌝ }
     ensures { λ r. ⌜ r ≡ acceptedPlaces h th 0 (now (cells .entry)) ⌝ }
@@ -92,12 +93,11 @@ fn places_accepted(h: Head, th: Things, cells: &[u64]) -> bool
     let mut k: usize = 0;
     while k < 2304 {
         let c = cells[k];
-        if is_standing(h, th, k / 48, k % 48) {
-            if !RightSet(c).within(h.rights) {
+        if c != 0 {
+            if !is_standing(h, th, k / 48, k % 48) {
                 return false;
             }
-        } else {
-            if c != 0 {
+            if !RightSet(c).within(h.rights) {
                 return false;
             }
         }

@@ -66,7 +66,7 @@ fn types_fault(h: Head, p: Parameters) -> Checked
     Checked::Fine
 }
 
-pub fn type_at(p: Parameters, row: Parameter) -> ThingType
+pub(crate) fn type_at(p: Parameters, row: Parameter) -> ThingType
     requires { ⌜ p .count ≤ 8 ⌝ }
     ensures { λ t. ⌜ t ≡ typeAt (typesOf p) row ⌝ }
 {
@@ -131,7 +131,7 @@ fn tests_fault(h: Head, p: Parameters, t: Tests) -> Checked
 
 // ---- operations
 
-pub fn group_of(code: Code) -> u8
+pub(crate) fn group_of(code: Code) -> u8
     ensures { λ r. ⌜ r ≡ group code ⌝ }
 {
     match code {
@@ -142,7 +142,7 @@ pub fn group_of(code: Code) -> u8
     }
 }
 
-pub fn is_create(code: Code) -> bool
+pub(crate) fn is_create(code: Code) -> bool
     ensures { λ r. ⌜ r ≡ isCreate code ⌝ }
 {
     match code {
@@ -206,7 +206,7 @@ fn created(o: Operations, n: usize, p: Parameter) -> bool
     false
 }
 
-pub fn destroyed(o: Operations, n: usize, p: Parameter) -> bool
+pub(crate) fn destroyed(o: Operations, n: usize, p: Parameter) -> bool
     requires { ⌜ n ≤ 32 ⌝ }
     ensures { λ r. ⌜ r ≡ any (destroys (p .0)) (before o n) ⌝ }
 {
@@ -268,7 +268,7 @@ fn thing_fault(p: Parameters, fits: bool, o: Operation) -> Checked
 }
 
 // Whether a create of the parameter may stand behind these tests and the first n operations.
-pub fn may_create(t: Tests, o: Operations, n: usize, p: Parameter) -> bool
+pub(crate) fn may_create(t: Tests, o: Operations, n: usize, p: Parameter) -> bool
     requires { ⌜ (t .count ≤ 16) × (n ≤ 32) ⌝ }
     ensures { λ r. ⌜ r ≡ (not (any (names (p .0)) (listOf t)) && not (any (creates (p .0)) (before o n))) ⌝ }
 {
@@ -278,7 +278,7 @@ pub fn may_create(t: Tests, o: Operations, n: usize, p: Parameter) -> bool
     !created(o, n, p)
 }
 
-pub fn last_group(o: Operations, n: usize) -> u8
+pub(crate) fn last_group(o: Operations, n: usize) -> u8
     requires { ⌜ n ≤ 32 ⌝ }
     ensures { λ r. ⌜ r ≡ lastGroup (before o n) ⌝ }
 {
@@ -360,19 +360,19 @@ pub fn command_fault(h: Head, c: Command) -> Checked
 }
 
 // ---- zeros behind the used places
+// No early exit from a command's places, and `&&` within one: LLVM makes one comparison of a place then, and looks at many places at once.
 
 fn padded_types(p: Parameters) -> bool
     ensures { λ r. ⌜ r ≡ padded zeroType 8 (p .count) (p .types) ⌝ }
 {
+    let mut zero = true;
     let mut i = p.count as usize;
     while i < 8 {
         let t = p.types[i];
-        if t.0 != 0 {
-            return false;
-        }
+        zero = zero & (t.0 == 0);
         i += 1;
     }
-    true
+    zero
 }
 
 fn zero_test(t: Test) -> bool
@@ -381,30 +381,20 @@ fn zero_test(t: Test) -> bool
     let right = t.right;
     let row = t.row;
     let column = t.column;
-    if t.present {
-        return false;
-    }
-    if right.0 != 0 {
-        return false;
-    }
-    if row.0 != 0 {
-        return false;
-    }
-    column.0 == 0
+    !t.present && right.0 == 0 && row.0 == 0 && column.0 == 0
 }
 
 fn padded_tests(t: Tests) -> bool
     ensures { λ r. ⌜ r ≡ padded zeroTest 16 (t .count) (t .list) ⌝ }
 {
+    let mut zero = true;
     let mut i = t.count as usize;
     while i < 16 {
         let one = t.list[i];
-        if !zero_test(one) {
-            return false;
-        }
+        zero = zero & zero_test(one);
         i += 1;
     }
-    true
+    zero
 }
 
 fn is_enter(code: Code) -> bool
@@ -425,30 +415,20 @@ fn zero_operation(o: Operation) -> bool
     let row = o.row;
     let column = o.column;
     let code = o.code;
-    if !is_enter(code) {
-        return false;
-    }
-    if right.0 != 0 {
-        return false;
-    }
-    if row.0 != 0 {
-        return false;
-    }
-    column.0 == 0
+    is_enter(code) && right.0 == 0 && row.0 == 0 && column.0 == 0
 }
 
 fn padded_operations(o: Operations) -> bool
     ensures { λ r. ⌜ r ≡ padded zeroOperation 32 (o .count) (o .list) ⌝ }
 {
+    let mut zero = true;
     let mut i = o.count as usize;
     while i < 32 {
         let one = o.list[i];
-        if !zero_operation(one) {
-            return false;
-        }
+        zero = zero & zero_operation(one);
         i += 1;
     }
-    true
+    zero
 }
 
 fn padded_command(c: Command) -> bool

@@ -1,4 +1,5 @@
--- The proofs of what `Agreement` and `Starred` state; `Told` is a law of refusals that the first cites.
+-- The proofs of what `Agreement`, `Starred` and `WrongPrograms` state; `Told` is a law of refusals that the first cites.
 pub mod Told
 pub mod Agreement
 pub mod Starred
+pub mod WrongPrograms

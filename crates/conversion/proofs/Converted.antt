@@ -71,7 +71,7 @@ module _ (h : Head) (m : Matrix) (ok : Held h m) (x y : ℕ) where
       go true st c = refl
       go false st c = refl
 
-  small : standsFor m .rights x y < 2 ^ h .rights
+  pub small : standsFor m .rights x y < 2 ^ h .rights
   unfolding standsFor cell
   small = by-cond (λ (c : ℕ). c < 2 ^ h .rights) both _ 0 (λ b. ok .cells .small _) (pow-pos (h .rights))
 

@@ -2,7 +2,6 @@
 pub mod Lists
 pub mod Built
 pub mod Mirror
-pub mod Places
 pub mod Poorer
 pub mod Robot
 pub mod Start

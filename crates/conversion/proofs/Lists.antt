@@ -1,22 +1,19 @@
--- Laws that more than one file of these proofs cites: few rights, lists with zeros behind, and a converted list of cells place by place.
+-- Laws that more than one file of these proofs cites: few rights, what holds of both cases, and a converted list of cells place by place.
 -- Assumes nothing.
 use Prim.Native.Nat.{ℕ, zero, suc, _+_, _-_, _*_, _/_, _%_, _≤_, _<_}
 use mathlib.Core.Path.{_≡_, refl, ap, _∙_}
 use mathlib.Core.Bool.{Bool, true, false, cond}
-use mathlib.Core.List.{List, [], _∷_, _++_}
+use mathlib.Core.List.{List, [], _∷_}
 use native.Mathlib.Nat.{add-zero, add-suc, suc-add, zero-add, not-suc-le-zero, le-of-suc-le-suc}
 use native.Mathlib.Omega.{arith}
 use lib.Dec.{T, leb→le}
-use lib.ListN.{length, getD, replicate, length-append, length-replicate}
-use lib.Seq.{drop-append-seam}
-use borrow.Author.Tests.{eq-eqb}
+use lib.ListN.{length, getD}
 use Rattle.rights.specs.Sets.{converted}
-use Rattle.model.specs.Check.{all}
-use Rattle.model.specs.Accepted.{padded, standing}
+use Rattle.model.specs.Accepted.{standing}
 use Rattle.model.specs.declared.Head.{Head}
 use Rattle.model.specs.declared.Scheme.{Scheme}
 use Rattle.model.specs.declared.Things.{Things}
-use Rattle.model.proofs.Bools.{and-both, must-pass, first-pass, then-pass}
+use Rattle.model.proofs.Bools.{must-pass, first-pass, then-pass}
 use Rattle.conversion.specs.Conversion.{conversionFault, convertible, convertCells}
 
 -- ---- a scheme that can be converted
@@ -29,21 +26,6 @@ few-rights s t = leb→le _ 32 (search (first-pass, then-pass, must-pass))
 pub by-cond : {A : Type 0} (P : A → Type 0) (b : Bool) (u v : A) → (T b → P u) → P v → P (cond b u v)
 by-cond P true u v f p = f tt
 by-cond P false u v f p = p
-
--- ---- zeros behind
-
-all-replicate : {A : Type 0} (f : A → Bool) (n : ℕ) (z : A) → T (f z) → T (all f (replicate n z))
-unfolding all
-all-replicate f zero z t = tt
-all-replicate f (suc n) z t = and-both (f z) _ t (all-replicate f n z t)
-
--- a list with zeros behind it is an array of that list
-pub padded-list : {A : Type 0} (f : A → Bool) (many : ℕ) (l : List A) (z : A) → T (f z) → length l ≤ many →
-    T (padded f many (length l) (l ++ replicate (many - length l) z))
-unfolding padded
-padded-list f many l z t h =
-    let e : length (l ++ replicate (many - length l) z) ≡ many = simp (length-append, length-replicate) (omega arith) in
-    rw (drop-append-seam, eq-eqb _ many e) (all-replicate f (many - length l) z t)
 
 -- ---- cells
 

@@ -21,10 +21,10 @@ use Rattle.model.specs.declared.Operation.{Operation}
 use Rattle.model.specs.declared.Command.{Command}
 use Rattle.model.proofs.Bools.{and-left, and-right, and-both}
 use Rattle.model.proofs.Form.{all-get}
+use Rattle.model.proofs.Simulation.{places-same}
 use Rattle.conversion.specs.Conversion.{testsPresence}
 use Rattle.conversion.specs.Demand3.{Within, Follows, Monotone}
 use Rattle.conversion.proofs.Mirror.{Sub, sub-enter, sub-delete}
-use Rattle.conversion.proofs.Places.{places-same}
 
 -- ---- outcomes
 
@@ -119,10 +119,10 @@ must-follows false b k h t = absurd t
 
 carry-follows : (a b : State) → Within a b → (ids : List ℕ) (c : Command) → T (all (λ t. t .present) (testsOf c)) →
     Follows (carryOut papers a ids c) (carryOut papers b ids c)
-unfolding carryOut
+unfolding carryOut papers
 carry-follows a b w ids c p =
     unless-follows _ _ _ _
-    (or-follows _ _ _ (rw (places-same a b (w .sameThings) (operationsOf c) (operationsOf c) (λ q. refl) 0 (parametersOf c) ids)
+    (or-follows _ _ _ (rw (places-same papers papers a b (λ x. ap (λ f. f x) (w .sameThings)) (operationsOf c) (operationsOf c) (λ q. refl) 0 (parametersOf c) ids)
     (or-follows _ _ _ (must-follows _ _ 14 (tests-follow a b w ids (testsOf c) p)))))
     (operations-follow (parametersOf c) ids (operationsOf c) a b w)
 

@@ -1,20 +1,17 @@
 -- The complete robot: on a matrix that mirrors the office's it answers each request as the office, and its matrix goes on mirroring.
 -- Assumes nothing.
 use Prim.Native.Nat.{ℕ, zero, suc, _≤_, _<_}
-use native.Mathlib.Omega.{arith}
 use mathlib.Core.Path.{_≡_, refl, ap, ap₂, _∙_}
 use mathlib.Core.Bool.{Bool, true, false, cond, _&&_, _||_}
 use mathlib.Core.Option.{Option, none, some, Option·map}
 use mathlib.Core.List.{List, [], _∷_, _++_, map}
-use lib.Dec.{T, eqb, eqb→eq, leb→le}
+use lib.Dec.{T, eqb}
 use lib.ListN.{getElem?}
 use Rattle.rights.specs.Sets.{enterRight, deleteRight}
-use Rattle.rights.specs.declared.Right.{Right}
 use Rattle.rights.specs.declared.ThingType.{ThingType}
-use Rattle.rights.specs.declared.Parameter.{Parameter}
-use Rattle.model.specs.Check.{Fault, _orElse_, must, passes, any, all}
-use Rattle.model.specs.Scheme.{parametersOf, testsOf, operationsOf, commandsOf, idAt, creates, isNew}
-use Rattle.model.specs.Request.{Request, Outcome, unlessFault, andThen, holds, act, operate, operateAll, carryOut, carryOutIf, step}
+use Rattle.model.specs.Check.{must, any, all}
+use Rattle.model.specs.Scheme.{parametersOf, testsOf, operationsOf, commandsOf, isSubject, idAt, creates, isNew}
+use Rattle.model.specs.Request.{Request, Outcome, andThen, holds, act, operate, operateAll, carryOut, carryOutIf, step}
 use Rattle.model.specs.Papers.{State, changeCell, papers}
 use Rattle.model.specs.Accepted.{acceptedScheme}
 use Rattle.model.specs.declared.Test.{Test}
@@ -24,15 +21,15 @@ use Rattle.model.specs.declared.Operation.{Operation}
 use Rattle.model.specs.declared.Command.{Command}
 use Rattle.model.specs.declared.Head.{Head}
 use Rattle.model.specs.declared.Scheme.{Scheme}
-use Rattle.model.proofs.Bools.{and-left, and-right, or-none, first-pass, then-pass, must-pass}
-use Rattle.model.proofs.Form.{Each, all-get, Names, Fits, Body, Tested, Formed, formed}
-use Rattle.model.proofs.Stands.{Agree}
+use Rattle.model.proofs.Bools.{and-left, and-right, and-both, first-pass, must-pass}
+use Rattle.model.proofs.Form.{Each, all-get, Fits, Body, Tested, Formed, formed}
+use Rattle.model.proofs.Stands.{Cell, Agree}
+use Rattle.model.proofs.Simulation.{or-same, unless-agree, places-same, placed-at, Fit, there}
 use Rattle.conversion.specs.Conversion.{keepsThings, conversionFault, convertible, partnerOf, convertTest, onPartner, convertAs}
 use Rattle.conversion.specs.Conversion.{convertOperations, convertCommand, convertScheme, cellExists}
 use Rattle.conversion.specs.Demand3.{Mirror, Mirrors}
 use Rattle.conversion.proofs.Lists.{few-rights}
 use Rattle.conversion.proofs.Mirror.{partner-is, mirror-enter, mirror-delete}
-use Rattle.conversion.proofs.Places.{places-same, cell-exists}
 use Rattle.conversion.proofs.Built.{its-parameters, its-tests, its-operations, its-commands}
 
 -- ---- outcomes: the robot's and the office's, both done and mirrored, or both refused with the same number
@@ -40,21 +37,7 @@ use Rattle.conversion.proofs.Built.{its-parameters, its-tests, its-oper
 abbrev pub Alike : Head → Outcome State → Outcome State → Type 0
 Alike h robot office = Agree (λ (b a : State). Mirrors h a b) robot office
 
-or-same : (a b f g : Fault) → a ≡ b → (T (passes b) → f ≡ g) → (a orElse f) ≡ (b orElse g)
-unfolding _orElse_ passes
-or-same none none f g e h = h tt
-or-same none (some k) f g e h = cc
-or-same (some j) none f g e h = cc
-or-same (some j) (some k) f g e h = e
-
-unless-alike : (h : Head) (f g : Fault) (o o′ : Outcome State) → f ≡ g → Alike h o o′ → Alike h (unlessFault f o) (unlessFault g o′)
-unfolding unlessFault
-unless-alike h none none o o′ e k = k
-unless-alike h none (some j) o o′ e k = let z : _≡_ {A = ℕ} 0 1 = cc in absurd (omega arith)
-unless-alike h (some j) none o o′ e k = let z : _≡_ {A = ℕ} 0 1 = cc in absurd (omega arith)
-unless-alike h (some i) (some j) o o′ e k = cc
-
--- ---- what converting leaves of the operations: the same parameters are new, which are none if nothing is created
+-- ---- what converting leaves of the operations: the same parameters are new
 
 created : (n p : ℕ) (o : Operation) (rest : List Operation) (c : Code) → o .code ≡ c →
     isNew (convertAs n o c ++ rest) p ≡ (creates p o || isNew rest p)
@@ -69,17 +52,9 @@ unfolding convertOperations isNew any
 new-same n [] p = refl
 new-same n (o ∷ os) p = created n p o (convertOperations n os) (o .code) refl ∙ ap (λ (b : Bool). creates p o || b) (new-same n os p)
 
-no-create : (p : ℕ) (o : Operation) (c : Code) → o .code ≡ c → T (keepsThings c) → creates p o ≡ false
-unfolding creates
-no-create p o Enter e k = rw e
-no-create p o Delete e k = rw e
-no-create p o Create e k = absurd k
-no-create p o Destroy e k = absurd k
-
-no-creates : (os : List Operation) → T (all (λ o. keepsThings (o .code)) os) → (p : ℕ) → isNew os p ≡ false
-unfolding all isNew any
-no-creates [] k p = refl
-no-creates (o ∷ os) k p = or-none (no-create p o (o .code) refl (search and-left)) (no-creates os (search and-right) p)
+cell-exists : (h : Head) (p : State) (x y : ℕ) → Cell h p x y → T (cellExists h p x y)
+unfolding cellExists
+cell-exists h p x y c = rw (c .rowIs) (and-both (isSubject h (c .row)) _ (c .subject) (c .column))
 
 module _ (h : Head) (small : h .rights ≤ 32) where
   -- ---- the operations
@@ -139,32 +114,29 @@ module _ (h : Head) (small : h .rights ≤ 32) where
         go true e = rw e (m .plain (t .right .0) r)
         go false e = rw (e, partner-is (h .rights) (t .right .0) small r) (m .partner (t .right .0) r)
 
-    tests-alike : (a b : State) → Mirrors h a b → (os : List Operation) →
-        ((r : Right) (i j : Parameter) → Names h types r i j → T (cellExists h a (idAt ids i) (idAt ids j))) →
-        (ts : List Test) → Each (Tested h types os) ts →
+    tests-alike : (a b : State) → Mirrors h a b → (os : List Operation) → Fit types ids a os → (ts : List Test) → Each (Tested h types os) ts →
         all (holds papers b ids) (map (convertTest (h .rights)) ts) ≡ all (holds papers a ids) ts
     unfolding all
-    tests-alike a b m os there [] each = refl
-    tests-alike a b m os there (t ∷ ts) (k, each) =
+    tests-alike a b m os fit [] each = refl
+    tests-alike a b m os fit (t ∷ ts) (k, each) =
+        let cell = there h types ids a os fit (t .right) (t .row) (t .column) (k .cell) (k .oldRow) (k .oldColumn) in
         ap₂ (λ (p q : Bool). p && q)
-        (test-alike a b t (m .mirror _ _ (there (t .right) (t .row) (t .column) (k .cell))) (k .cell .right))
-        (tests-alike a b m os there ts each)
+        (test-alike a b t (m .mirror _ _ (cell-exists h a _ _ cell)) (k .cell .right))
+        (tests-alike a b m os fit ts each)
 
   -- ---- one request
 
   carry-alike : (a b : State) → Mirrors h a b → (ids : List ℕ) (c : Command) → Formed h c →
       T (all (λ o. keepsThings (o .code)) (operationsOf c)) →
       Alike h (carryOut papers b ids (convertCommand (h .rights) c)) (carryOut papers a ids c)
-  unfolding carryOut
+  unfolding carryOut papers
   carry-alike a b m ids c form keeps =
       rw (its-parameters (h .rights) c, its-tests (h .rights) c, its-operations (h .rights) c)
-      (unless-alike h _ _ _ _
+      (unless-agree (λ (b a : State). Mirrors h a b) _ _ _ _
       (or-same _ _ _ _ refl λ long.
-      or-same _ _ _ _ (places-same b a (m .sameThings) _ _ (new-same (h .rights) os) 0 types ids) λ ok.
-      ap (λ (p : Bool). must p 14)
-      (tests-alike types ids a b m os (cell-exists a os (no-creates os keeps) h types ids (eqb→eq _ _ (must-pass _ 11 long)) ok)
-      (testsOf c) (form .tests)))
-      (operations-alike types ids 0 os keeps (form .body) a b m))
+      or-same _ _ _ _ (places-same papers papers b a (λ x. ap (λ f. f x) (m .sameThings)) _ _ (new-same (h .rights) os) 0 types ids) λ ok.
+      ap (λ (p : Bool). must p 14) (tests-alike types ids a b m os (λ q l. placed-at a os types ids long ok q l .old) (testsOf c) (form .tests)))
+      (λ ok. operations-alike types ids 0 os keeps (form .body) a b m))
     where
       types : List ThingType
       types = parametersOf c

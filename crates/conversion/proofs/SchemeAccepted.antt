@@ -1,14 +1,14 @@
--- A converted scheme is accepted and tests no absence: its commands keep their parameters, each test its cell, and the operations double.
+-- A converted scheme is accepted: its commands keep their parameters, each test its cell, and the operations double.
 -- Assumes nothing.
 use Prim.Native.Nat.{ℕ, _*_, _≤_, _<_}
 use mathlib.Core.Path.{_≡_, refl}
-use mathlib.Core.Bool.{Bool, true, false}
-use mathlib.Core.Option.{none, some}
+use mathlib.Core.Bool.{Bool, false}
+use mathlib.Core.Option.{some}
 use mathlib.Core.List.{List, [], _∷_, map}
 use native.Mathlib.Omega.{arith}
-use lib.Dec.{T, eqb, eqb→eq, ltb, leb, leb→le, le→leb, ltb→lt, lt→ltb}
-use lib.ListN.{length, take, length-map, length-take}
-use lib.Seq.{take-append-seam, length-take-le}
+use lib.Dec.{T, ltb, leb, leb→le, le→leb, ltb→lt, lt→ltb}
+use lib.ListN.{length, length-map, length-take}
+use lib.Seq.{take-append-seam}
 use Rattle.rights.specs.Sets.{partner}
 use Rattle.rights.specs.declared.Right.{Right}
 use Rattle.rights.specs.declared.ThingType.{ThingType}
@@ -18,7 +18,7 @@ use Rattle.model.specs.Scheme.{parametersOf, testsOf, operationsOf, commandsOf,
 use Rattle.model.specs.Seats.{noType}
 use Rattle.model.specs.Arrays.{test, operation, command}
 use Rattle.model.specs.Accepted.{between, firstFault, headFault, typeRange, rowFault, testFault, group, lastGroup, changeFault, codeFault}
-use Rattle.model.specs.Accepted.{operationFault, operationsFault, commandFault, zeroType, zeroTest, zeroOperation, padded, paddedCommand, zeroCommand}
+use Rattle.model.specs.Accepted.{operationFault, operationsFault, commandFault, zeroType, zeroTest, zeroOperation, paddedCommand, zeroCommand}
 use Rattle.model.specs.Accepted.{acceptedCommand, acceptedScheme}
 use Rattle.model.specs.declared.Test.{Test}
 use Rattle.model.specs.declared.Code.{Code}
@@ -27,24 +27,15 @@ use Rattle.model.specs.declared.Operation.{Operation}
 use Rattle.model.specs.declared.Command.{Command}
 use Rattle.model.specs.declared.Head.{Head}
 use Rattle.model.specs.declared.Scheme.{Scheme}
-use Rattle.model.proofs.Bools.{and-both, and-left, and-right, must-pass, first-pass, then-pass}
+use Rattle.model.proofs.Bools.{and-both, and-left, and-right, must-pass, first-pass, then-pass, must-true, both-pass, between-is}
+use Rattle.model.proofs.Padded.{padded-list, used}
 use Rattle.conversion.specs.Conversion.{keepsThings, partnerOf, convertTest, onPartner, convertAs, convertOperations, convertCommand, convertScheme}
-use Rattle.conversion.specs.Conversion.{conversionFault, convertible, testsPresence}
-use Rattle.conversion.proofs.Lists.{few-rights, by-cond, padded-list}
+use Rattle.conversion.specs.Conversion.{conversionFault, convertible}
+use Rattle.conversion.proofs.Lists.{few-rights, by-cond}
 
 ruleset passed = (first-pass, then-pass, must-pass)
 
 -- ---- checks that pass
-
-must-true : (b : Bool) (k : ℕ) → T b → T (passes (must b k))
-unfolding must passes
-must-true true k t = tt
-must-true false k t = t
-
-both-pass : (a b : Fault) → T (passes a) → T (passes b) → T (passes (a orElse b))
-unfolding _orElse_ passes
-both-pass none b t u = u
-both-pass (some k) b t u = t
 
 first-map : {A B : Type 0} (f : A → Fault) (f′ : B → Fault) (c : A → B) → ((x : A) → T (passes (f x)) → T (passes (f′ (c x)))) →
     (xs : List A) → T (passes (firstFault f xs)) → T (passes (firstFault f′ (map c xs)))
@@ -53,13 +44,9 @@ first-map f f′ c law [] t = t
 first-map f f′ c law (x ∷ xs) t =
     both-pass (f′ (c x)) _ (law x (first-pass (f x) _ t)) (first-map f f′ c law xs (then-pass (f x) _ t))
 
-between-is : (low high x : ℕ) → low ≤ x → x ≤ high → T (between low high x)
-unfolding between
-between-is low high x a b = and-both (leb low x) (leb x high) (le→leb low x a) (le→leb x high b)
-
 -- ---- enters and deletes: their form depends on nothing before them but its group
 
-abbrev keepsAll : List Operation → Bool
+abbrev pub keepsAll : List Operation → Bool
 keepsAll os = all (λ o. keepsThings (o .code)) os
 
 -- what the partner undergoes; of a code that keeps things no other
@@ -81,7 +68,7 @@ as-two n o Delete t = refl
 as-two n o Create t = absurd t
 as-two n o Destroy t = absurd t
 
-length-operations : (n : ℕ) (os : List Operation) → T (keepsAll os) → length (convertOperations n os) ≡ 2 * length os
+pub length-operations : (n : ℕ) (os : List Operation) → T (keepsAll os) → length (convertOperations n os) ≡ 2 * length os
 unfolding convertOperations all
 length-operations n [] kept = refl
 length-operations n (o ∷ os) kept =
@@ -188,11 +175,6 @@ built h ks ts os l =
 zero-built : T (zeroCommand (command [] [] []))
 unfolding zeroCommand
 zero-built = built-padded [] [] [] (omega arith) (omega arith) (omega arith)
-
--- as many places are used as are counted
-used : {A : Type 0} (f : A → Bool) (many count : ℕ) (l : List A) → T (padded f many count l) → count ≤ many → length (take count l) ≡ count
-unfolding padded
-used f many count l t h = let e = eqb→eq (length l) many (and-left (eqb (length l) many) _ t) in length-take-le count l (omega arith)
 
 parts : (h : Head) (c : Command) → T (acceptedCommand h c) → Parts h (parametersOf c) (testsOf c) (operationsOf c)
 unfolding acceptedCommand commandFault paddedCommand between

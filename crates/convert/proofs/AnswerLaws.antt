@@ -1,7 +1,7 @@
 -- How the answers of the calls follow from those of the calls within them. That a converted scheme and matrix are accepted, so that their
 -- writing is not refused by 27, is `Converts`.
 -- Assumes nothing.
-use Prim.Native.Nat.{ℕ}
+use Prim.Native.Nat.{ℕ, _≤_}
 use mathlib.Core.Path.{_≡_, refl, sym, ap, _∙_}
 use mathlib.Core.Option.{none, some}
 use mathlib.Core.Bool.{Bool, true, false, cond, _&&_, and-false}
@@ -10,7 +10,8 @@ use lib.Dec.{T}
 use lib.ListN.{length}
 use Rattle.model.specs.Check.{Fault, passes}
 use Rattle.model.specs.Seats.{Matrix}
-use Rattle.model.specs.Accepted.{acceptedScheme, acceptedMatrix}
+use Rattle.model.specs.Accepted.{headFault, acceptedScheme, acceptedMatrix}
+use Rattle.model.specs.declared.Head.{Head}
 use Rattle.model.specs.declared.Scheme.{Scheme}
 use Rattle.model.proofs.Bools.{is-true, is-false, from-true, and-left, and-right}
 use Rattle.model.proofs.HeldLaws.{held}
@@ -20,14 +21,18 @@ use Rattle.accepted.proofs.SchemeLaws.{told-fine, told-fault}
 use Rattle.records.specs.declared.Writing.{Writing}
 use Rattle.records.specs.declared.Writing.the-variants as writing
 use Rattle.scheme_bytes.specs.Write.{writeScheme}
-use Rattle.matrix_bytes.specs.Write.{writeMatrix}
+use Rattle.matrix_bytes.specs.Write.{writeMatrixByHead}
+use Rattle.matrix_bytes.proofs.RoundTrips.{head-passes}
 use Rattle.conversion.specs.Conversion.{conversionFault, convertible, convertScheme, convertCells, convertMatrix}
 use Rattle.conversion.specs.Promises.{Converts}
+use Rattle.conversion.proofs.Lists.{few-rights}
 use Rattle.convert.specs.declared.answers.Conversion.{Conversion}
 use Rattle.convert.specs.declared.answers.Conversion.the-variants.{Done, Refused}
 use Rattle.convert.specs.declared.answers.SchemeConversion.{SchemeConversion}
 use Rattle.convert.specs.Convert.{schemeFault, matrixFault, convertedBy, convertedScheme, cellsBy, convertedCells}
 use Rattle.convert.specs.Convert.{convertSchemeInto, convertMatrixInto}
+use Rattle.convert.specs.Parts.{convertHead}
+use Rattle.convert.proofs.SchemeLaws.{head-converted}
 
 -- ---- a scheme as a value
 converts-if : (s : Scheme) → conversionFault s ≡ none → T (convertible s)
@@ -124,53 +129,53 @@ module _ (out : List ℕ) (s : Scheme) (m : Matrix) where
   unfolding convertMatrixInto matrixFault
   matrix-27 h = rw (is-false (acceptedMatrix (s .head) m) (λ t. h (held (s .head) m t .cells .room)), and-false)
 
-  -- the call on a copy of the cells
-  module _ (copy : List ℕ) (same : copy ≡ m .cells) (a : Conversion) (cells : List ℕ)
-      (told : _≡_ {A = Conversion × List ℕ} (a, cells) (convertedCells s (record { things = m .things; cells = copy }))) where
-    e : _≡_ {A = Conversion × List ℕ} (a, cells) (convertedCells s m)
-    e = told ∙ rw same
+-- the call on a copy of the cells
+module _ (s : Scheme) (m : Matrix) (copy : List ℕ) (same : copy ≡ m .cells) (a : Conversion) (cells : List ℕ)
+    (told : _≡_ {A = Conversion × List ℕ} (a, cells) (convertedCells s (record { things = m .things; cells = copy }))) where
+  e : _≡_ {A = Conversion × List ℕ} (a, cells) (convertedCells s m)
+  e = told ∙ rw same
 
+  no-matrix-fault : a ≡ Done → matrixFault s m ≡ none
+  unfolding convertedCells
+  no-matrix-fault f = cells-by-done s m (matrixFault s m) (sym (ap (λ (x : Conversion × List ℕ). x .0) e) ∙ f)
+
+  cells-are : matrixFault s m ≡ none → cells ≡ convertMatrix (s .head) m .cells
+  unfolding convertedCells
+  cells-are f = ap (λ (x : Conversion × List ℕ). x .1) e ∙ rw f
+
+  all-passed : matrixFault s m ≡ none → T (acceptedScheme s) × T (acceptedMatrix (s .head) m) × (conversionFault s ≡ none)
+  unfolding matrixFault
+  all-passed f =
+      let (b, g) = past-27 (acceptedScheme s && acceptedMatrix (s .head) m) (conversionFault s) f in
+      let t = from-true b in
+      (and-left (acceptedScheme s) _ t, and-right (acceptedScheme s) _ t, g)
+
+  pub rights-few : a ≡ Done → s .head .rights ≤ 32
+  rights-few g = few-rights s (converts-if s (all-passed (no-matrix-fault g) .2))
+
+  module _ (out : List ℕ) where
     pub matrix-refused : (k : ℕ) → a ≡ Refused k → _≡_ {A = Writing × List ℕ} (writing.Refused k, out) (convertMatrixInto out s m)
     unfolding convertedCells convertMatrixInto
     matrix-refused k f = rw (cells-by-refused s m (matrixFault s m) k (sym (ap (λ (x : Conversion × List ℕ). x .0) e) ∙ f))
 
-    no-matrix-fault : a ≡ Done → matrixFault s m ≡ none
-    unfolding convertedCells
-    no-matrix-fault f = cells-by-done s m (matrixFault s m) (sym (ap (λ (x : Conversion × List ℕ). x .0) e) ∙ f)
-
-    cells-are : matrixFault s m ≡ none → cells ≡ convertMatrix (s .head) m .cells
-    unfolding convertedCells
-    cells-are f = ap (λ (x : Conversion × List ℕ). x .1) e ∙ rw f
-
-    module _ (converts : Converts) (f : matrixFault s m ≡ none) where
-      all-passed : T (acceptedScheme s) × T (acceptedMatrix (s .head) m) × (conversionFault s ≡ none)
-      unfolding matrixFault
-      all-passed =
-          let (b, g) = past-27 (acceptedScheme s && acceptedMatrix (s .head) m) (conversionFault s) f in
-          let t = from-true b in
-          (and-left (acceptedScheme s) _ t, and-right (acceptedScheme s) _ t, g)
-
-      no-scheme-fault : schemeFault s ≡ none
-      unfolding schemeFault
-      no-scheme-fault = let (t, u, g) = all-passed in rw (is-true (acceptedScheme s) t, g)
-
-      matrix-written : writeMatrix out (convertScheme s) (convertMatrix (s .head) m) ≡ convertMatrixInto out s m
-      unfolding writeMatrix convertMatrixInto
-      matrix-written =
-          let (t, u, g) = all-passed in
+    module _ (converts : Converts) where
+      matrix-written : matrixFault s m ≡ none → writeMatrixByHead out (convertScheme s .head) (convertMatrix (s .head) m) ≡ convertMatrixInto out s m
+      unfolding writeMatrixByHead convertMatrixInto
+      matrix-written f =
+          let (t, u, g) = all-passed f in
           let v = converts-if s g in
           rw (
-            is-true (acceptedScheme (convertScheme s)) (converts .scheme s t v .0),
+            is-true (passes (headFault (convertScheme s .head))) (head-passes (convertScheme s) (converts .scheme s t v .0)),
             is-true (acceptedMatrix (convertScheme s .head) (convertMatrix (s .head) m)) (converts .matrix s m t v u),
             f,
           )
 
-    pub matrix-done : Converts → a ≡ Done → (r : SchemeConversion) → r ≡ convertedScheme s → (w : Writing) (out′ : List ℕ) →
-        _≡_ {A = Writing × List ℕ} (w, out′) (writeMatrix out (r .scheme) (record { things = m .things; cells = cells })) →
-        _≡_ {A = Writing × List ℕ} (w, out′) (convertMatrixInto out s m)
-    unfolding convertMatrix
-    matrix-done converts g r d w out′ h =
-        let f = no-matrix-fault g in
-        let x = scheme-is out s r d (no-scheme-fault converts f) in
-        let y = cells-are f in
-        h ∙ rw (x, y) (matrix-written converts f)
+      pub matrix-done : a ≡ Done → (h : Head) → h ≡ convertHead (s .head) → (w : Writing) (out′ : List ℕ) →
+          _≡_ {A = Writing × List ℕ} (w, out′) (writeMatrixByHead out h (record { things = m .things; cells = cells })) →
+          _≡_ {A = Writing × List ℕ} (w, out′) (convertMatrixInto out s m)
+      unfolding convertMatrix
+      matrix-done g h d w out′ is =
+          let f = no-matrix-fault g in
+          let x = d ∙ head-converted s (all-passed f .0) in
+          let y = cells-are f in
+          is ∙ rw (x, y) (matrix-written f)

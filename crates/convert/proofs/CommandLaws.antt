@@ -23,6 +23,7 @@ use Rattle.model.specs.declared.Operations.{Operations}
 use Rattle.model.specs.declared.Command.{Command}
 use Rattle.model.proofs.Bools.{and-left, and-right}
 use Rattle.conversion.specs.Conversion.{keepsThings, partnerOf, convertTest, onPartner, convertAs, convertOperations, convertCommand}
+use Rattle.conversion.proofs.SchemeAccepted.{length-operations}
 use Rattle.scheme_bytes.specs.Read.{commandOf}
 use Rattle.scheme_bytes.proofs.Padded.{padded-lists}
 use Rattle.convert.specs.Parts.{testsFrom, operationsFrom, paddedTests, keepsAll, oppositeOf, Convertible}
@@ -67,11 +68,6 @@ module _ (n : ℕ) where
   unfolding all
   rest o os t = and-right (keepsThings (o .code)) _ t
 
-  twice : (os : List Operation) → T (keepsAll os) → length (convertOperations n os) ≡ 2 * length os
-  unfolding convertOperations
-  twice [] t = refl
-  twice (o ∷ os) t = rw (one-on o os t) (omega (arith, twice os (rest o os t)))
-
   pair-at : (os : List Operation) (d : Operation) (j : ℕ) → T (keepsAll os) → j < length os →
       (getD (convertOperations n os) (2 * j) d ≡ getD os j d) × (getD (convertOperations n os) (2 * j + 1) d ≡ second (getD os j d))
   pair-at [] d j t h = absurd (omega arith)
@@ -93,7 +89,7 @@ module _ (n count : ℕ) (l : List Operation) (t : T (keepsAll (take count l))) 
   used = length-take-le count l r
 
   paired-used : length (convertOperations n (take count l)) ≡ 2 * count
-  paired-used = omega (arith, twice n (take count l) t, used)
+  paired-used = omega (arith, length-operations n (take count l) t, used)
 
   pub paired-begin : Filling paired (replicate 32 none) (replicate 32 none) 0
   paired-begin = begin paired (replicate 32 none) (simp (length-append, length-replicate, paired-used) (omega arith))

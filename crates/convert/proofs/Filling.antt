@@ -5,11 +5,11 @@ use native.Mathlib.Omega.{arith}
 use native.Mathlib.Numerals.{add-one}
 use mathlib.Core.Path.{_≡_, refl, sym, ap, _∙_}
 use mathlib.Core.Bool.{Bool}
-use mathlib.Core.List.{List, _∷_, _++_, map}
+use mathlib.Core.List.{List, _∷_, _++_, map, append-assoc}
 use lib.Dec.{T}
 use lib.ListN.{length, take, drop, set, getD, replicate, List·getD-append, List·getD-map}
 use lib.ListN.{length-append, length-take, length-drop, length-map, length-replicate, take-append-drop, drop-of-length-le}
-use lib.Seq.{length-take-le, take-suc, drop-cons, append-snoc, set-at, getD-at, getD-take, drop-at}
+use lib.Seq.{length-take-le, take-suc, take-add, drop-cons, drop-drop, append-snoc, set-at, getD-at, getD-take, take-at, drop-at}
 use Rattle.model.specs.Accepted.{padded}
 use Rattle.scheme_bytes.proofs.Padded.{Zero, unpad}
 
@@ -29,23 +29,35 @@ module _ {A : Type 0} where
     before : (d : A) → j < length old → array ≡ take j new ++ getD old j d ∷ drop (j + 1) old
     before d h = v .mixed ∙ rw (add-one j, drop-cons old j d h)
 
-    front : j < length old → length (take j new) ≡ j
+    front : j ≤ length old → length (take j new) ≡ j
     front h = length-take-le j new (omega (arith, v .long))
 
     pub there : (d : A) → j < length old → getD array j d ≡ getD old j d
-    there d h = rw (before d h) (getD-at (take j new) (getD old j d) (drop (j + 1) old) d j (front h))
+    there d h = rw (before d h) (getD-at (take j new) (getD old j d) (drop (j + 1) old) d j (front (omega arith)))
 
     pub on : (d x : A) → j < length old → x ≡ getD new j d → Filling new old (set array j x) (j + 1)
     on d x h e =
         record {
           long = v .long;
-          mixed = rw (before d h, set-at (take j new) (getD old j d) (drop (j + 1) old) x j (front h), e) (next d h);
+          mixed = rw (before d h, set-at (take j new) (getD old j d) (drop (j + 1) old) x j (front (omega arith)), e) (next d h);
         }
 
     -- a place where nothing has to change
     pub past : (d : A) → j < length old → getD array j d ≡ getD new j d → Filling new old array (j + 1)
     past d h e =
         record { long = v .long; mixed = before d h ∙ ap (λ x. take j new ++ x ∷ drop (j + 1) old) (sym (there d h) ∙ e) ∙ next d h }
+
+    filled : j ≤ length old → take j array ≡ take j new
+    filled h = rw (v .mixed) (take-at (take j new) (drop j old) j (front h))
+
+    pub unfilled : j ≤ length old → drop j array ≡ drop j old
+    unfilled h = rw (v .mixed) (drop-at (take j new) (drop j old) j (front h))
+
+    -- m places at once, as a part that was lent comes back
+    pub part : (m : ℕ) (xs : List A) → j ≤ length old → xs ≡ take m (drop j new) →
+        Filling new old (take j array ++ (xs ++ drop m (drop j array))) (j + m)
+    part m xs h e =
+        record { long = v .long; mixed = rw (filled h, unfilled h, e, take-add j m new, drop-drop m j old, append-assoc) }
 
     pub all-in : drop j new ≡ drop j old → array ≡ new
     all-in e = v .mixed ∙ rw (← e) (take-append-drop j new)

@@ -1,8 +1,8 @@
 -- The three checks of a conversion, and what an accepted scheme that passes them gives the loops over its commands.
 -- Assumes nothing.
-use Prim.Native.Nat.{ℕ, _+_, _*_, _≤_, _<_}
+use Prim.Native.Nat.{ℕ, _+_, _≤_, _<_}
 use native.Mathlib.Omega.{arith}
-use mathlib.Core.Path.{_≡_}
+use mathlib.Core.Path.{_≡_, _∙_}
 use mathlib.Core.Bool.{Bool, true, false}
 use mathlib.Core.List.{List, []}
 use lib.Dec.{T, leb, leb→le}
@@ -14,6 +14,7 @@ use Rattle.model.specs.Scheme.{operationsOf, commandsOf}
 use Rattle.model.specs.Arrays.{command}
 use Rattle.model.specs.Accepted.{zeroCommand, padded, acceptedCommand, acceptedScheme}
 use Rattle.model.specs.declared.Command.{Command}
+use Rattle.model.specs.declared.Head.{Head}
 use Rattle.model.specs.declared.Scheme.{Scheme}
 use Rattle.model.proofs.Bools.{and-left, and-right, first-pass, then-pass, must-pass}
 use Rattle.model.proofs.Form.{all-at}
@@ -23,7 +24,7 @@ use Rattle.scheme_bytes.specs.Read.{commandOf, noCommand}
 use Rattle.scheme_bytes.proofs.Padded.{Zero, no-command}
 use Rattle.scheme_write.proofs.WriteLaws.{commands-there, command-small}
 use Rattle.conversion.specs.Conversion.{conversionFault, convertible, convertCommand, convertScheme}
-use Rattle.convert.specs.Parts.{keepsAll, Convertible}
+use Rattle.convert.specs.Parts.{convertHead, keepsAll, Convertible}
 use Rattle.convert.proofs.Filling.{Filling, changed-begin, changed-on, changed-all, changed-used}
 
 -- ---- the three checks
@@ -110,12 +111,13 @@ module _ (s : Scheme) (t : T (acceptedScheme s)) where
   unfolding convertScheme
   converted-on = changed-on (convertCommand (s .head .rights)) blank 32 (s .head .count) (s .commands) padding (in-range .0)
 
-  pub converted-all : {commands : List Command} {j : ℕ} → Converted commands j → j ≡ s .head .count → record {
-    head = record { rights = 2 * s .head .rights; types = s .head .types; subjects = s .head .subjects; count = s .head .count };
-    commands = commands;
-  } ≡ convertScheme s
+  pub head-converted : convertHead (s .head) ≡ convertScheme s .head
   unfolding convertScheme
-  converted-all v e =
-      let f = convertCommand (s .head .rights) in
-      let u = changed-used f blank 32 (s .head .count) (s .commands) padding (in-range .0) in
-      rw (changed-all f blank 32 (s .head .count) (s .commands) padding (in-range .0) v e, u)
+  head-converted = rw (changed-used (convertCommand (s .head .rights)) blank 32 (s .head .count) (s .commands) padding (in-range .0))
+
+  pub converted-all : {commands : List Command} {j : ℕ} → Converted commands j → j ≡ s .head .count → (h : Head) → h ≡ convertHead (s .head) →
+      record { head = h; commands = commands } ≡ convertScheme s
+  unfolding convertScheme
+  converted-all v e h eh =
+      let all = changed-all (convertCommand (s .head .rights)) blank 32 (s .head .count) (s .commands) padding (in-range .0) v e in
+      λ i. record { head = (eh ∙ head-converted) i; commands = all i }

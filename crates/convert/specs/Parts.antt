@@ -1,10 +1,11 @@
--- What the private functions of `convert` promise of a command's parts.
+-- What the private functions of `convert` promise of the parts of a command and of a matrix.
 -- Assumes nothing.
-use Prim.Native.Nat.{_-_, _≤_}
-use mathlib.Core.Bool.{Bool, false}
-use mathlib.Core.List.{List, _++_}
-use lib.Dec.{T}
+use Prim.Native.Nat.{ℕ, _*_, _-_, _≤_}
+use mathlib.Core.Bool.{Bool, false, cond}
+use mathlib.Core.List.{List, [], _∷_, _++_}
+use lib.Dec.{T, eqb}
 use lib.ListN.{length, replicate}
+use Rattle.rights.specs.Sets.{converted}
 use Rattle.model.specs.Check.{all}
 use Rattle.model.specs.Scheme.{operationsOf}
 use Rattle.model.specs.Arrays.{test, operation}
@@ -16,6 +17,7 @@ use Rattle.model.specs.declared.Code.the-variants.{Enter, Delete, Create, Destr
 use Rattle.model.specs.declared.Operation.{Operation}
 use Rattle.model.specs.declared.Operations.{Operations}
 use Rattle.model.specs.declared.Command.{Command}
+use Rattle.model.specs.declared.Head.{Head}
 use Rattle.conversion.specs.Conversion.{keepsThings}
 
 -- the two arrays of `command`, each for itself
@@ -28,6 +30,10 @@ operationsFrom os = record { count = length os; list = os ++ replicate (32 - len
 -- the tests of a padded command
 abbrev pub paddedTests : Tests → Bool
 paddedTests t = padded zeroTest 16 (t .count) (t .list)
+
+-- a head with twice the rights
+abbrev pub convertHead : Head → Head
+convertHead h = record { rights = 2 * h .rights; types = h .types; subjects = h .subjects; count = h .count }
 
 -- neither creates nor destroys
 abbrev pub keepsAll : List Operation → Bool
@@ -47,3 +53,9 @@ pub record Convertible (c : Command) : Type 0 where
   pub tests : c .tests .count ≤ 16
   pub operations : c .operations .count ≤ 16
   pub keeps : T (keepsAll (operationsOf c))
+
+-- a subject's row: the cells of the columns that have a thing
+unfoldable pub convertRow : ℕ → List ℕ → List ℕ → List ℕ
+convertRow n [] cells = []
+convertRow n (x ∷ ids) [] = []
+convertRow n (x ∷ ids) (c ∷ cs) = cond (eqb x 0) c (converted n c) ∷ convertRow n ids cs

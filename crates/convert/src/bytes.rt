@@ -1,6 +1,7 @@
 // The converted scheme's and the converted matrix's bytes, from the start of a lent buffer on.
 use crate::answers::Conversion;
 use crate::matrix::converted_cells;
+use crate::scheme::converted_head;
 use crate::scheme::converted_scheme;
 use model::Scheme;
 use model::Things;
@@ -47,9 +48,9 @@ pub fn convert_matrix(out: &mut [u8], s: Scheme, th: Things, cells: &[u64]) -> W
     match converted_cells(s, th, &mut copy) {
         Conversion::Refused(x) => Writing::Refused { number: x },
         Conversion::Done => {
-            let converted = converted_scheme(s);
-            let robot = converted.scheme;
-            matrix_bytes::write_matrix(out, robot, th, &copy)
+            let h = s.head;
+            let robot = converted_head(h);
+            matrix_write::write_matrix_by_head(out, robot, th, &copy)
         }
     }
 }

@@ -70,7 +70,7 @@ fn is_change(c: Code) -> bool
 }
 
 // Whether none of them creates or destroys.
-pub fn keep_things(o: Operations) -> bool
+pub(crate) fn keep_things(o: Operations) -> bool
     requires { ⌜ o .count ≤ 32 ⌝ }
     ensures { λ r. ⌜ r ≡ keepsAll (bodyOf o) ⌝ }
 {
@@ -141,7 +141,7 @@ fn convert_operations(n: u8, o: Operations) -> Operations
 
 // ---- all of it
 
-pub fn convert_command(n: u8, c: Command) -> Command
+pub(crate) fn convert_command(n: u8, c: Command) -> Command
     requires { ⌜ Convertible c ⌝ }
     ensures { λ r. ⌜ r ≡ convertCommand n c ⌝ }
 {

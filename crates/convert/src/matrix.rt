@@ -10,11 +10,13 @@ use model::Things;
 use rights::RightSet;
 ghost use mathlib.Core.Path.{_≡_};
 ghost use mathlib.Core.List.{List};
-ghost use Prim.Native.Nat.{ℕ, _/_, _%_, _^_, _≤_, _<_};
+ghost use Prim.Native.Nat.{ℕ, _^_, _≤_, _<_};
 ghost use lib.Dec.{T};
+ghost use lib.ListN.{length, getD};
 ghost use Rattle.rights.specs.Sets.{converted};
-ghost use Rattle.model.specs.Accepted.{standing, acceptedMatrix};
+ghost use Rattle.model.specs.Accepted.{acceptedMatrix};
 ghost use Rattle.conversion.specs.Conversion.{convertCells};
+ghost use Rattle.convert.specs.Parts.{convertRow};
 ghost use Rattle.convert.specs.Convert.{convertedCells};
 
 // A set with the partner of each right it lacks.
@@ -26,34 +28,41 @@ fn convert_set(c: RightSet, n: u8) -> RightSet
     RightSet(c.0 + (lacking.0 << n))
 }
 
-// Whether there is a cell at this place.
-fn stands_at(h: Head, th: Things, k: usize) -> bool
-    requires { ⌜ k < 2304 ⌝ }
-    ensures { λ r. ⌜ r ≡ standing h th (k / 48) (k % 48) ⌝ }
+// A subject's row: there is a cell in each column that has a thing.
+fn convert_row(ids: [u16; 48], n: u8, row: &mut [u64])
+    requires { ⌜ (n ≤ 32) × (length (now row) ≡ 48) × ((j : ℕ) → j < 48 → getD (now row) j 0 < 2 ^ n) ⌝ }
+    ensures { λ _. ⌜ now (row .exit) ≡ convertRow n ids (now (row .entry)) ⌝ }
 {
-    if th.ids[k / 48] == 0 {
-        return false;
+    let mut j: usize = 0;
+    while j < 48 {
+        let x = ids[j];
+        let c = row[j];
+        if x != 0 {
+            let robot = convert_set(RightSet(c), n);
+            row[j] = robot.0;
+        }
+        j += 1;
     }
-    if th.ids[k % 48] == 0 {
-        return false;
-    }
-    let t = th.types[k / 48];
-    h.subjects.has(t)
 }
 
+// A row of no subject has no cells, so none of its places is looked at.
 fn convert_cells(h: Head, th: Things, cells: &mut [u64])
     requires { ⌜ (h .rights ≤ 32) × T (acceptedMatrix h (record { things = th; cells = now cells })) ⌝ }
     ensures { λ _. ⌜ now (cells .exit) ≡ convertCells h th 0 (now (cells .entry)) ⌝ }
 {
     let n = h.rights;
-    let mut k: usize = 0;
-    while k < 2304 {
-        let c = cells[k];
-        if stands_at(h, th, k) {
-            let robot = convert_set(RightSet(c), n);
-            cells[k] = robot.0;
+    let ids = th.ids;
+    let mut i: usize = 0;
+    while i < 48 {
+        if ids[i] != 0 {
+            let t = th.types[i];
+            if h.subjects.has(t) {
+                let from = i * 48;
+                let to = from + 48;
+                convert_row(ids, n, &mut cells[from..to]);
+            }
         }
-        k += 1;
+        i += 1;
     }
 }
 

@@ -8,13 +8,14 @@ use accepted::scheme_accepted;
 use model::Head;
 use model::Scheme;
 ghost use mathlib.Core.Path.{_≡_};
+ghost use Prim.Native.Nat.{_≤_};
 ghost use lib.Dec.{T, leb};
 ghost use Rattle.accepted.specs.Answers.{asChecked};
 ghost use Rattle.model.specs.Check.{all};
 ghost use Rattle.model.specs.Scheme.{operationsOf, commandsOf};
 ghost use Rattle.model.specs.Accepted.{acceptedScheme};
 ghost use Rattle.conversion.specs.Conversion.{conversionFault, convertible, convertScheme};
-ghost use Rattle.convert.specs.Parts.{keepsAll};
+ghost use Rattle.convert.specs.Parts.{keepsAll, convertHead};
 ghost use Rattle.convert.specs.Convert.{convertedScheme};
 
 // ---- what refuses it
@@ -57,7 +58,7 @@ fn all_fit(s: Scheme) -> bool
 }
 
 // 20, then 21, then 22, each over all of the scheme.
-pub fn conversion_fault(s: Scheme) -> Checked
+pub(crate) fn conversion_fault(s: Scheme) -> Checked
     requires { ⌜ T (acceptedScheme s) ⌝ }
     ensures { λ r. ⌜ r ≡ asChecked (conversionFault s) ⌝ }
 {
@@ -76,7 +77,22 @@ pub fn conversion_fault(s: Scheme) -> Checked
 
 // ---- the scheme
 
-// Twice the rights, and each command converted.
+// Twice the rights; the rest stays.
+pub(crate) fn converted_head(h: Head) -> Head
+    requires { ⌜ h .rights ≤ 32 ⌝ }
+    ensures { λ r. ⌜ r ≡ convertHead h ⌝ }
+{
+    let subjects = h.subjects;
+    let rights = 2 * h.rights;
+    Head {
+        rights,
+        types: h.types,
+        subjects,
+        count: h.count,
+    }
+}
+
+// The head, and each command converted.
 fn convert_all(s: Scheme) -> Scheme
     requires { ⌜ T (acceptedScheme s) × T (convertible s) ⌝ }
     ensures { λ r. ⌜ r ≡ convertScheme s ⌝ }
@@ -91,14 +107,7 @@ fn convert_all(s: Scheme) -> Scheme
         commands[j] = convert_command(n, c);
         j += 1;
     }
-    let subjects = h.subjects;
-    let rights = 2 * n;
-    let head = Head {
-        rights,
-        types: h.types,
-        subjects,
-        count: h.count,
-    };
+    let head = converted_head(h);
     Scheme { head, commands }
 }
 

@@ -153,7 +153,7 @@ fn write_request(b: &[u8], out: &mut [u8]) -> Writing {
 fn write(what: u8, b: &[u8], s: Scheme, th: Things, cells: &[u64], out: &mut [u8]) -> Writing {
     match what {
         4 => scheme_write::write_scheme(out, s),
-        5 => matrix_bytes::write_matrix(out, s, th, cells),
+        5 => matrix_write::write_matrix(out, s, th, cells),
         8 => convert::convert_scheme(out, s),
         9 => convert::convert_matrix(out, s, th, cells),
         _ => write_request(b, out),

@@ -13,8 +13,8 @@ use borrow.Author.Tests.{eqb-true, eq-eqb}
 use Rattle.model.specs.Check.{all}
 use Rattle.model.specs.Seats.{blank}
 use Rattle.model.specs.declared.Operation.{Operation}
+use Rattle.accepted.proofs.Walks.{turn-used, ended-used}
 use Rattle.engine.specs.Plan.{cellsBy, cellsAfter}
-use Rattle.engine.proofs.LocateLaws.{turn-used, ended-used}
 
 module _ {A : Type 0} (l : List A) (n : ℕ) (fits : n ≤ length l) (i : ℕ) where
   -- ---- the tests

@@ -20,7 +20,7 @@ use Rattle.model.specs.declared.Command.{Command}
 use Rattle.model.specs.declared.Scheme.{Scheme}
 use Rattle.model.proofs.Joined.{kept}
 use Rattle.records.specs.Bytes.{part}
-use Rattle.records.specs.Reading.{Read, got, fault, _>>=_, _>>_, steps, byte, field, number as numeral, whole, end}
+use Rattle.records.specs.Reading.{Read, got, fault, _>>=_, _>>_, byte, field, whole, end}
 use Rattle.records.specs.Reading.{done as give}
 use Rattle.records.specs.Front.{recordAt, onBody}
 use Rattle.records.specs.declared.RecordAnswer.{RecordAnswer}
@@ -39,6 +39,7 @@ use Rattle.request_bytes.specs.declared.RequestReading.the-variants as request-
 use Rattle.request_bytes.specs.declared.RequestAnswer.{RequestAnswer}
 use Rattle.request_bytes.proofs.Laws.{read-end, read-refused, read-record}
 use Rattle.request_bytes.proofs.RequestReading.{the-type}
+use Rattle.request_bytes.proofs.Skip.{idsIn}
 use Rattle.engine.specs.Step.{numberOf, answered}
 use Rattle.engine.specs.List.{Listed, asked, onAnswer, listFrom, listOf, runAnswer, endedBy, Result, runOn, ranOn, runQuietly}
 use Rattle.engine.specs.declared.answers.Ran.{Ran}
@@ -48,9 +49,6 @@ use Rattle.engine.specs.declared.answers.Stepped.{Stepped}
 use Rattle.engine.proofs.StepLaws.{refusedWith, no-command, command-step}
 
 -- ---- a request that was read: it takes some bytes, and its array holds its ids
-
-abbrev idsIn : ℕ → List ℕ → Read (List ℕ) ℕ (List ℕ)
-idsIn n = steps (λ (u : Unit {0}). numeral 2) (λ u x. u) n tt
 
 ids-held : (command : ℕ) (ids : List ℕ) → requestOf command ids .count ≤ length (requestOf command ids .ids)
 unfolding requestOf

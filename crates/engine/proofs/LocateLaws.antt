@@ -9,8 +9,8 @@ use native.Mathlib.Nat.{sub-zero, zero-sub, suc-sub-suc}
 use native.Mathlib.Numerals.{add-one}
 use native.Mathlib.Omega.{arith}
 use lib.Dec.{eqb, ltb, leb·suc-suc}
-use lib.ListN.{length, getD, take, drop, set, replicate, drop-of-length-le, take-append-drop, List·getD-eq-default}
-use lib.Seq.{drop-cons, length-take-le, getD-take, take-suc-set, drop-set-lt, drop-drop, set-out, append-snoc}
+use lib.ListN.{length, getD, take, drop, set, replicate, take-append-drop, List·getD-eq-default}
+use lib.Seq.{length-take-le, take-suc-set, drop-set-lt, drop-drop, set-out, append-snoc}
 use mir.Syntax.{w16}
 use mir.Val.{Fits}
 use borrow.Author.Tests.{lt-ltb, le-ltb, le-leb, eq-eqb, ne-eqb}
@@ -22,6 +22,7 @@ use Rattle.model.specs.Seats.{seats, among, find, known, seat, thingAt, noType}
 use Rattle.model.specs.declared.Code.the-variants.{Enter}
 use Rattle.model.specs.declared.Operation.{Operation}
 use Rattle.model.specs.declared.Things.{Things}
+use Rattle.accepted.proofs.Walks.{turn, ended, turn-used, ended-used}
 use Rattle.engine.specs.Plan.{seatsFrom}
 use Rattle.engine.specs.Code.{bare, spotBy, placed, locatedBy}
 use Rattle.engine.specs.declared.answers.Answer.the-variants.{Done, Refused}
@@ -29,29 +30,13 @@ use Rattle.engine.specs.declared.answers.Located.{Located}
 use Rattle.engine.specs.declared.locate.Spot.{Spot}
 use Rattle.engine.specs.declared.locate.Spot.the-variants as spot
 
--- ---- lists
-
+-- ---- a read and a store past the end
 module _ {A : Type 0} (l : List A) (n : ℕ) (full : length l ≡ n) (i : ℕ) where
-  pub turn : (d : A) → i < n → drop i l ≡ getD l i d ∷ drop (i + 1) l
-  turn d h = let k : i < length l = omega arith in rw (add-one, drop-cons l i d k)
-
-  pub ended : n ≤ i → drop i l ≡ []
-  ended h = drop-of-length-le l {i = i} (omega arith)
-
-  -- a read and a store past the end
   pub past : (d : A) → n ≤ i → getD l i d ≡ d
   past d h = List·getD-eq-default l d (omega arith)
 
   pub unset : (a : A) → n ≤ i → set l i a ≡ l
   unset a h = set-out l i a (omega arith)
-
--- the same for the used part of an array
-module _ {A : Type 0} (l : List A) (n : ℕ) (fits : n ≤ length l) (i : ℕ) where
-  pub turn-used : (d : A) → i < n → drop i (take n l) ≡ getD l i d ∷ drop (i + 1) (take n l)
-  turn-used d h = turn (take n l) n (length-take-le n l fits) i d h ∙ rw (getD-take n l i d h)
-
-  pub ended-used : n ≤ i → drop i (take n l) ≡ []
-  ended-used h = ended (take n l) n (length-take-le n l fits) i h
 
 -- ---- the search for a seat
 

@@ -14,11 +14,12 @@ use Rattle.model.specs.declared.Code.{Code}
 use Rattle.model.specs.declared.Code.the-variants.{Enter, Delete, Create, Destroy}
 use Rattle.model.specs.declared.Operation.{Operation}
 use Rattle.model.specs.declared.Things.{Things}
+use Rattle.accepted.proofs.Walks.{turn-used, ended-used}
 use Rattle.engine.specs.Plan.{Plan, Planned, fine, faulty, seatAt, planCreate, planDestroy, planBy, planOne, goOn, planAll}
 use Rattle.engine.specs.Code.{planOf, asPlanning, changesThings}
 use Rattle.engine.specs.declared.answers.Answer.the-variants.{Done, Refused}
 use Rattle.engine.specs.declared.answers.Planning.{Planning}
-use Rattle.engine.proofs.LocateLaws.{among-found, turn-used, ended-used, noOperation}
+use Rattle.engine.proofs.LocateLaws.{among-found, noOperation}
 
 abbrev pub refusedWith : ℕ → Things → Planning
 refusedWith k th = record { answer = Refused k; things = th; at = replicate 8 0 }

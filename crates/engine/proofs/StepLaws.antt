@@ -14,9 +14,9 @@ use borrow.Author.Tests.{eq-eqb, ne-eqb}
 use Rattle.rights.specs.declared.ThingType.{ThingType}
 use Rattle.model.specs.Check.{Fault, _orElse_, must, passes, all}
 use Rattle.model.specs.Scheme.{parametersOf, testsOf, operationsOf, commandsOf}
-use Rattle.model.specs.Request.{refused, unlessFault, placeFault, placesFault, carryOut, carryOutIf, step}
+use Rattle.model.specs.Request.{refused, unlessFault, placesFault, carryOut, carryOutIf, step}
 use Rattle.model.specs.Seats.{Matrix, seats}
-use Rattle.model.specs.Accepted.{between, headFault, commandFault, padded, paddedCommand, acceptedCommand, acceptedScheme, acceptedMatrix}
+use Rattle.model.specs.Accepted.{between, headFault, commandFault, padded, zeroType, paddedCommand, acceptedCommand, acceptedScheme, acceptedMatrix}
 use Rattle.model.specs.declared.Operation.{Operation}
 use Rattle.model.specs.declared.Command.{Command}
 use Rattle.model.specs.declared.Scheme.{Scheme}
@@ -24,6 +24,8 @@ use Rattle.model.specs.declared.Things.{Things}
 use Rattle.model.proofs.Bools.{and-left, and-right, must-pass, first-pass, then-pass}
 use Rattle.model.proofs.Form.{all-at, formed-command}
 use Rattle.model.proofs.HeldLaws.{held}
+use Rattle.model.proofs.Padded.{used}
+use Rattle.model.proofs.Simulation.{places-same}
 use Rattle.engine.specs.Plan.{seatsFrom, holdsAt, Planned, fine, faulty, planAll, cellsAfter, carriedBy, planned, Ready}
 use Rattle.engine.specs.Code.{bare, locatedBy, located, planOf, asPlanning}
 use Rattle.engine.specs.Step.{answered, requestOn}
@@ -45,28 +47,20 @@ pub record Counted (c : Command) (list : List ℕ) : Type 0 where
   pub cells : length list ≡ 2304
 
 pub counted : (c : Command) (m : Matrix) → Ready c m → Counted c (m .cells)
-unfolding acceptedCommand commandFault between paddedCommand padded
+unfolding acceptedCommand commandFault between paddedCommand
 counted c m ready =
     let accepted : T (acceptedCommand (ready .head) c) = ready .command in
     let fine : T (passes (commandFault (ready .head) c)) = search and-left in
-    let room : length (c .parameters .types) ≡ 8 = eqb→eq _ _ (search (and-left, and-right)) in
     let few : c .parameters .count ≤ 8 = leb→le _ _ (search (and-right, must-pass, first-pass, then-pass)) in
     record {
       parameters = few;
-      types = length-take-le _ _ (omega arith);
+      types = used zeroType 8 _ _ (search (and-left, and-right)) few;
       tests = leb→le _ _ (search (must-pass, first-pass, then-pass));
       operations = leb→le _ _ (search (and-right, must-pass, first-pass, then-pass) depth 8);
       cells = held (ready .head) m (ready .matrix) .cells .room;
     }
 
--- ---- the places: their checks look at no cell
-
-places-bare : (m : Matrix) (os : List Operation) (p : ℕ) (ts : List ThingType) (xs : List ℕ)
-    → placesFault seats (bare (m .things)) os p ts xs ≡ placesFault seats m os p ts xs
-unfolding placesFault placeFault seats
-places-bare m os p [] xs = refl
-places-bare m os p (t ∷ ts) [] = refl
-places-bare m os p (t ∷ ts) (x ∷ xs) = rw (places-bare m os (suc p) ts xs)
+-- ---- the places
 
 -- what an answer of `locate` says, by the first fault
 located-stop : (at : List ℕ) (f : Fault) (found : Located) (k : ℕ) → found ≡ locatedBy at f → found .answer ≡ Refused k → f ≡ some k
@@ -133,8 +127,8 @@ module _ (c : Command) (m : Matrix) (ids : List ℕ) (ready : Ready c m) where
     enough = long ∙ sym (counted c m ready .types)
 
     located-is : found ≡ locatedBy at fault
-    unfolding located
-    located-is = rw (← places-bare m os 0 types ids) place
+    unfolding located seats
+    located-is = rw (← places-same seats seats (bare (m .things)) m (λ x. refl) os os (λ q. refl) 0 types ids) place
 
     pub stops-place : (k : ℕ) → found .answer ≡ Refused k → (r : Stepped) → r ≡ refusedWith k (m .things) → Gives r (m .cells)
     unfolding planned must _orElse_ unlessFault

@@ -2,12 +2,10 @@
 -- every fault, and only then the cells. Assumes nothing.
 use Prim.Native.Nat.{ℕ, suc, _+_, _*_}
 use mathlib.Core.Bool.{Bool, cond, not}
-use mathlib.Core.Path.{_≡_}
 use mathlib.Core.List.{List, [], _∷_}
 use lib.Dec.{T, eqb}
 use lib.ListN.{length, getD, set}
 use Rattle.rights.specs.Sets.{has, enterRight, deleteRight}
-use Rattle.rights.specs.declared.Right.{Right}
 use Rattle.rights.specs.declared.ThingType.{ThingType}
 use Rattle.rights.specs.declared.Parameter.{Parameter}
 use Rattle.model.specs.Check.{_orElse_, must, passes, all}

@@ -7,7 +7,6 @@ use Rattle.model.specs.Request.{Outcome, done, refused, step}
 use Rattle.model.specs.Seats.{Matrix, seats}
 use Rattle.model.specs.Accepted.{acceptedScheme, acceptedMatrix}
 use Rattle.model.specs.declared.Scheme.{Scheme}
-use Rattle.model.specs.declared.Things.{Things}
 use Rattle.engine.specs.declared.answers.Answer.{Answer}
 use Rattle.engine.specs.declared.answers.Answer.the-variants.{Done, Refused}
 use Rattle.engine.specs.declared.answers.Stepped.{Stepped}

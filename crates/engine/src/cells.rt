@@ -52,7 +52,7 @@ fn holds(cells: &[u64], at: [u8; 8], t: Test) -> bool
     if t.present { there } else { !there }
 }
 
-pub fn holds_all(cells: &[u64], at: [u8; 8], t: Tests) -> bool
+pub(crate) fn holds_all(cells: &[u64], at: [u8; 8], t: Tests) -> bool
     requires { ⌜ t .count ≤ 16 ⌝ }
     ensures { λ r. ⌜ r ≡ all (holdsAt (now (cells .entry)) at) (listOf t) ⌝ }
 {
@@ -111,7 +111,7 @@ fn change_one(cells: &mut [u64], at: [u8; 8], o: Operation)
     }
 }
 
-pub fn change_all(cells: &mut [u64], at: [u8; 8], o: Operations)
+pub(crate) fn change_all(cells: &mut [u64], at: [u8; 8], o: Operations)
     requires { ⌜ (o .count ≤ 32) × (length (now cells) ≡ 2304) ⌝ }
     ensures { λ _. ⌜ now (cells .exit) ≡ cellsAfter at (bodyOf o) (now (cells .entry)) ⌝ }
 {

@@ -15,7 +15,7 @@ ghost use lib.Dec.{T};
 ghost use lib.ListN.{length};
 ghost use Rattle.model.specs.Accepted.{acceptedScheme, acceptedMatrix};
 ghost use Rattle.engine.specs.Step.{numberOf};
-ghost use Rattle.engine.specs.List.{Result, listOf, endedBy, ranOn, runOn, runQuietly};
+ghost use Rattle.engine.specs.List.{listOf, endedBy, ranOn, runOn, runQuietly};
 
 // How many requests a list has, up to its end or to the first record that can't be read.
 fn count_requests(bytes: &[u8]) -> usize

@@ -2,7 +2,6 @@
 use crate::answers::Answer;
 use crate::answers::Located;
 use accepted::is_create;
-use model::Code;
 use model::Operations;
 use model::Parameters;
 use model::Things;
@@ -17,7 +16,7 @@ ghost use Rattle.engine.specs.Code.{placed, located};
 
 // The first seat with this id, or 48. It stops at that seat: measured, this is faster than a look at every seat, several at a time, on few things and on
 // many.
-pub fn seat_of(ids: [u16; 48], x: u16) -> usize
+pub(crate) fn seat_of(ids: [u16; 48], x: u16) -> usize
     ensures { λ r. ⌜ r ≡ find ids x ⌝ }
 {
     let mut i: usize = 0;
@@ -78,7 +77,7 @@ fn spot_of(th: Things, new: bool, t: ThingType, x: u16) -> Spot
     Spot::At(i as u8)
 }
 
-pub fn locate(th: Things, p: Parameters, o: Operations, ids: &[u16]) -> Located
+pub(crate) fn locate(th: Things, p: Parameters, o: Operations, ids: &[u16]) -> Located
     requires { ⌜ (p .count ≤ 8) × (o .count ≤ 32) × (length (now ids) ≡ p .count) ⌝ }
     ensures { λ r. ⌜ r ≡ located th (bodyOf o) (typesOf p) (now (ids .entry)) ⌝ }
 {

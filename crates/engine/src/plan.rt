@@ -12,7 +12,7 @@ use rights::Parameter;
 use rights::ThingType;
 ghost use mathlib.Core.Path.{_≡_};
 ghost use Prim.Native.Nat.{_≤_, _<_};
-ghost use lib.ListN.{length, getD, replicate};
+ghost use lib.ListN.{getD, replicate};
 ghost use Rattle.model.specs.Scheme.{idAt};
 ghost use Rattle.model.specs.Seats.{putThing};
 ghost use Rattle.engine.specs.Plan.{seatAt, planCreate, planDestroy, planOne, planAll};
@@ -26,7 +26,7 @@ fn id_at(ids: &[u16], p: Parameter) -> u16
     if i < ids.len() { ids[i] } else { 0 }
 }
 
-pub fn seat_at(at: [u8; 8], p: Parameter) -> usize
+pub(crate) fn seat_at(at: [u8; 8], p: Parameter) -> usize
     ensures { λ r. ⌜ (r ≡ seatAt at p) × (r ≤ 255) ⌝ }
 {
     let i = p.0 as usize;
@@ -137,7 +137,13 @@ fn changes_things(c: Code) -> bool
 }
 
 // All operations in order, up to the first fault.
-pub fn plan_all(th: Things, at: [u8; 8], p: Parameters, ids: &[u16], o: Operations) -> Planning
+pub(crate) fn plan_all(
+    th: Things,
+    at: [u8; 8],
+    p: Parameters,
+    ids: &[u16],
+    o: Operations,
+) -> Planning
     requires { ⌜ (p .count ≤ 8) × (o .count ≤ 32) ⌝ }
     ensures { λ r. ⌜ r ≡ asPlanning th (planAll (typesOf p) (now (ids .entry)) (bodyOf o) (planOf th at)) ⌝ }
 {

@@ -14,13 +14,13 @@ ghost use mathlib.Core.Path.{_≡_};
 ghost use mathlib.Core.List.{List};
 ghost use Prim.Native.Nat.{ℕ};
 ghost use lib.Dec.{T};
-ghost use Rattle.model.specs.Request.{refused, carryOut, step};
+ghost use Rattle.model.specs.Request.{carryOut, step};
 ghost use Rattle.model.specs.Seats.{seats};
 ghost use Rattle.model.specs.Accepted.{acceptedScheme, acceptedMatrix};
 ghost use Rattle.engine.specs.Step.{answered, requestOn};
 ghost use Rattle.engine.specs.Plan.{Ready};
 
-pub fn refuse(x: u8, th: Things) -> Stepped
+pub(crate) fn refuse(x: u8, th: Things) -> Stepped
     ensures { λ r. ⌜ r ≡ record { answer = Answer.Refused x; things = th } ⌝ }
 {
     Stepped {
@@ -30,7 +30,7 @@ pub fn refuse(x: u8, th: Things) -> Stepped
 }
 
 // A command with these ids: all faults first, then the cells.
-pub fn carry_out(c: Command, th: Things, cells: &mut [u64], ids: &[u16]) -> Stepped
+pub(crate) fn carry_out(c: Command, th: Things, cells: &mut [u64], ids: &[u16]) -> Stepped
     requires { ⌜ Ready c (record { things = th; cells = now cells }) ⌝ }
     ensures { λ r. ⌜ _≡_ {A = Stepped × List ℕ} (r, now (cells .exit)) (answered (record { things = th; cells = now (cells .entry) }) (carryOut seats (record { things = th; cells = now (cells .entry) }) (now (ids .entry)) c)) ⌝ }
 {
@@ -64,7 +64,7 @@ pub fn carry_out(c: Command, th: Things, cells: &mut [u64], ids: &[u16]) -> Step
 }
 
 // A request of an accepted scheme and matrix.
-pub fn step_on(s: Scheme, th: Things, cells: &mut [u64], command: u8, ids: &[u16]) -> Stepped
+pub(crate) fn step_on(s: Scheme, th: Things, cells: &mut [u64], command: u8, ids: &[u16]) -> Stepped
     requires { ⌜ T (acceptedScheme s) × T (acceptedMatrix (s .head) (record { things = th; cells = now cells })) ⌝ }
     ensures { λ r. ⌜ _≡_ {A = Stepped × List ℕ} (r, now (cells .exit)) (answered (record { things = th; cells = now (cells .entry) }) (step seats s (record { things = th; cells = now (cells .entry) }) (record { command = command; ids = now (ids .entry) }))) ⌝ }
 {

@@ -1,6 +1,6 @@
 -- A matrix is accepted exactly if some bytes read as one with the same content, and it is tidy. What this adds to the round trips: an accepted matrix's
 -- bytes are bytes, below 256; and acceptance depends on the content alone, apart from what is unused. Assumes nothing.
-use Prim.Native.Nat.{ℕ, zero, suc, _+_, _*_, _/_, _%_, _^_, _≤_, _<_}
+use Prim.Native.Nat.{ℕ, _+_, _*_, _/_, _%_, _^_, _≤_, _<_}
 use mathlib.Core.Path.{_≡_, refl, sym, ap, _∙_}
 use mathlib.Core.Logic.{_≢_, _⊎_, inl, inr}
 use mathlib.Core.Bool.{Bool, true, false, not, _&&_}
@@ -22,35 +22,13 @@ use Rattle.model.proofs.HeldLaws.{held, accepted}
 use Rattle.model.proofs.Find.{find-lt, among-get, seat-is, some-known, some-type, known-is, seat-lt}
 use Rattle.records.specs.Bytes.{littleEndian, recordBytes}
 use Rattle.records.proofs.Trip.{Bytes}
+use Rattle.records.proofs.Below.{Below, below-bytes, below-append, below-number, below-record}
 use Rattle.matrix_bytes.specs.Content.{Thing, Cell, thingsOf, cellsOf}
 use Rattle.matrix_bytes.specs.Write.{thingBytes, cellBytes, thingRecords, cellRecords, matrixBytes}
 use Rattle.matrix_bytes.specs.Promises.{Tidy, AcceptedIffRead}
 use Rattle.matrix_bytes.proofs.Rising.{Rising, things-rising, things-few}
 use Rattle.matrix_bytes.proofs.Trips.{Sized}
 use Rattle.matrix_bytes.proofs.RoundTrips.{sized, same-content, there, back}
-
--- ---- lists of bytes
-abbrev Below : List ℕ → Type 0
-Below [] = Unit {0}
-Below (v ∷ l) = (v < 256) × Below l
-
-below-bytes : (l : List ℕ) → Below l → Bytes l
-below-bytes [] s i = omega arith
-below-bytes (v ∷ l) s zero = s .0
-below-bytes (v ∷ l) s (suc i) = below-bytes l (s .1) i
-
-below-append : (a b : List ℕ) → Below a → Below b → Below (a ++ b)
-below-append [] b s t = t
-below-append (v ∷ a) b s t = (s .0, below-append a b (s .1) t)
-
-below-record : (kind : ℕ) (body : List ℕ) → Below body → Below (recordBytes kind body)
-unfolding recordBytes littleEndian
-below-record kind body s = (omega arith, (omega arith, (omega arith, (omega arith, s))))
-
-below-number : (w v : ℕ) → Below (littleEndian w v)
-unfolding littleEndian
-below-number zero v = tt
-below-number (suc w) v = (omega arith, below-number w (v / 256))
 
 -- ---- the bytes of a matrix's parts
 cells-below : (cs : List Cell) → Below (cellRecords cs)

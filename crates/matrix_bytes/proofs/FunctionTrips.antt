@@ -1,23 +1,21 @@
 -- What `FunctionTrips` states of matrices: the round trips of their bytes, behind the tests that the functions make around them.
 -- Assumes nothing.
-use Prim.Native.Nat.{ℕ, _+_}
+use Prim.Native.Nat.{ℕ}
 use native.Mathlib.Nat.{zero-add}
 use mathlib.Core.Bool.{Bool, true, false, cond, _&&_}
 use mathlib.Core.List.{List}
-use mathlib.Core.Path.{_≡_, refl, sym, ap, _∙_}
-use lib.Dec.{T, leb, eqb}
-use lib.ListN.{length, take}
-use borrow.Author.Tests.{le-leb, leb-true, eq-eqb}
+use mathlib.Core.Path.{_≡_, ap}
+use lib.Dec.{T, eqb}
+use lib.ListN.{length}
+use borrow.Author.Tests.{le-leb, eq-eqb}
 use Rattle.model.specs.Seats.{Matrix}
 use Rattle.model.specs.Accepted.{acceptedScheme, acceptedMatrix}
 use Rattle.model.specs.declared.Things.{Things}
 use Rattle.model.proofs.Bools.{is-true, and-left, and-right}
 use Rattle.records.specs.Reading.{Read, got, fault}
 use Rattle.records.specs.Front.{Refusal}
-use Rattle.records.specs.Writing.{placed, writeBytes}
+use Rattle.records.specs.Writing.{writeBytes}
 use Rattle.records.specs.declared.Reading.the-variants.{Done, Refused}
-use Rattle.records.specs.declared.Writing.{Writing}
-use Rattle.records.specs.declared.Writing.the-variants as writing
 use Rattle.records.proofs.FieldLaws.{apart}
 use Rattle.records.proofs.Wrote.{pair-eq, wrote, wrote-first}
 use Rattle.matrix_bytes.specs.Answers.{asMatrix, readMatrix}

@@ -8,6 +8,4 @@ pub mod RoundTrips
 pub mod AcceptedTrip
 pub mod FieldReads
 pub mod ReadLaws
-pub mod OrderLaws
-pub mod WriteLaws
 pub mod FunctionTrips

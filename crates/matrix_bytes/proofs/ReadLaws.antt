@@ -13,16 +13,18 @@ use lib.ListN.{length, take, getD, set, replicate}
 use lib.Seq.{take-suc, take-suc-set}
 use borrow.Author.Tests.{eq-eqb, ne-eqb}
 use Rattle.rights.specs.declared.ThingType.{ThingType}
+use Rattle.model.specs.Check.{passes}
 use Rattle.model.specs.Seats.{find, noType, seat, place}
-use Rattle.model.specs.Accepted.{acceptedScheme}
+use Rattle.model.specs.Accepted.{headFault, acceptedScheme}
 use Rattle.model.specs.declared.Head.{Head}
 use Rattle.model.specs.declared.Scheme.{Scheme}
 use Rattle.model.specs.declared.Things.{Things}
-use Rattle.model.proofs.Bools.{from-true}
+use Rattle.model.proofs.Bools.{is-true, from-true}
 use Rattle.records.specs.Bytes.{part}
 use Rattle.records.specs.Reading.{Read, got, fault, Reader, bind, _>>=_, _>>_, done, check, steps, number, whole}
 use Rattle.records.specs.Front.{Refusal, recordAt, inRecord}
 use Rattle.records.specs.declared.RecordAnswer.the-variants as record-answer
+use Rattle.records.specs.declared.Reading.{Reading}
 use Rattle.records.specs.declared.Reading.the-variants as reading
 use Rattle.records.proofs.FieldLaws.{apart}
 use Rattle.records.proofs.FrontLaws.{in-refused, in-record}
@@ -32,7 +34,7 @@ use Rattle.records.proofs.TripRecord.{in-record-back}
 use Rattle.matrix_bytes.specs.Content.{Thing, Cell, thingsFrom, store, storeAll, matrixFrom}
 use Rattle.matrix_bytes.specs.Read.{head, thing, cell, typeIn, isThing, isRow, above, start, toEnd, matrix}
 use Rattle.matrix_bytes.specs.Answers.{listed, lastOf, placeIn, storedIn, asHead, asThing, asCell, asThingAt, asCellAt}
-use Rattle.matrix_bytes.specs.Answers.{asThingsRead, asCellsRead, refusedBy, finished, asMatrix, readMatrix}
+use Rattle.matrix_bytes.specs.Answers.{asThingsRead, CellsRead, cellsFrom, refusedBy, finished, asMatrix, readMatrix, readMatrixByHead}
 use Rattle.matrix_bytes.specs.declared.answers.HeadAnswer.{HeadAnswer}
 use Rattle.matrix_bytes.specs.declared.answers.HeadAnswer.the-variants as head-is
 use Rattle.matrix_bytes.specs.declared.answers.ThingAnswer.{ThingAnswer}
@@ -42,14 +44,13 @@ use Rattle.matrix_bytes.specs.declared.answers.CellAnswer.the-variants a
 use Rattle.matrix_bytes.specs.declared.answers.ThingAt.the-variants as thing-at
 use Rattle.matrix_bytes.specs.declared.answers.CellAt.the-variants as cell-at
 use Rattle.matrix_bytes.specs.declared.answers.ThingsRead.{ThingsRead}
-use Rattle.matrix_bytes.specs.declared.answers.CellsRead.{CellsRead}
 use Rattle.matrix_bytes.specs.declared.answers.MatrixAnswer.{MatrixAnswer}
 use Rattle.matrix_bytes.proofs.Rising.{Rising, from-held}
 use Rattle.matrix_bytes.proofs.Spots.{Each}
 use Rattle.matrix_bytes.proofs.Spots.Each.{no as no-cell, also}
 use Rattle.matrix_bytes.proofs.Cells.{CellOk}
 use Rattle.matrix_bytes.proofs.Trips.{Sized, stand-le, head-record, things-trip, cells-back}
-use Rattle.matrix_bytes.proofs.RoundTrips.{sized}
+use Rattle.matrix_bytes.proofs.RoundTrips.{head-sized, head-passes}
 use Rattle.matrix_bytes.proofs.FieldReads.{cellWith, type-none}
 
 -- ---- a thing's record
@@ -209,30 +210,30 @@ unfolding storedIn
 stored-on n ids cells [] c = refl
 stored-on n ids cells (d ∷ cs) c = stored-on n ids (set cells (placeIn n ids d) (d .rights)) cs c
 
-module _ (s : List ℕ) (h : Head) (th : Things) (n at : ℕ) where
+module _ (s : List ℕ) (h : Head) (th : Things) (n at : ℕ) (cells₀ : List ℕ) where
   abbrev oneCell : Cell → Reader ℕ Refusal Cell
   oneCell last = inRecord s 32 (λ kind. cell h (listed n (th .ids) (th .types)) last)
 
-  abbrev cellsFrom : ℕ → Cell → Reader ℕ Refusal (List Cell)
-  cellsFrom = toEnd s oneCell (λ last c. c)
+  abbrev cellsLeft : ℕ → Cell → Reader ℕ Refusal (List Cell)
+  cellsLeft = toEnd s oneCell (λ last c. c)
 
   abbrev cellsRead : Read ℕ Refusal (List Cell)
-  cellsRead = cellsFrom (length s) start at
+  cellsRead = cellsFrom s h th n at
 
   pub record SoFar (cells : List ℕ) (over by p : ℕ) : Type 0 where
     pub items : List Cell
     pub fuel : ℕ
     pub inside : p ≤ length s
     pub enough : length s ≤ p + fuel
-    pub read : cellsRead ≡ prepend items (cellsFrom fuel (lastOf over by) p)
-    pub stored : cells ≡ storedIn n (th .ids) (replicate 2304 0) items
+    pub read : cellsRead ≡ prepend items (cellsLeft fuel (lastOf over by) p)
+    pub stored : cells ≡ storedIn n (th .ids) cells₀ items
 
-  pub far-none : at ≤ length s → SoFar (replicate 2304 0) 0 0 at
+  pub far-none : at ≤ length s → SoFar cells₀ 0 0 at
   unfolding start storedIn
   far-none l = record { items = []; fuel = length s; inside = l; enough = omega arith; read = prepend-none cellsRead; stored = refl }
 
   one-more : (fuel : ℕ) (last : Cell) (p : ℕ) → p < length s → length s ≤ p + fuel →
-      cellsFrom fuel last p ≡ bind (oneCell last p) (λ c. cellsFrom (fuel - 1) c >>= λ cs. done (c ∷ cs))
+      cellsLeft fuel last p ≡ bind (oneCell last p) (λ c. cellsLeft (fuel - 1) c >>= λ cs. done (c ∷ cs))
   unfolding toEnd
   one-more zero last p l m = absurd (omega arith)
   one-more (suc fuel) last p l m =
@@ -241,19 +242,19 @@ module _ (s : List ℕ) (h : Head) (th : Things) (n at : ℕ) where
       rw (d, ne-eqb p (length s) z)
 
   -- of the cell before, only its row and its column are looked at
-  only-place : (fuel : ℕ) (c : Cell) (p : ℕ) → cellsFrom fuel c p ≡ cellsFrom fuel (lastOf (c .row) (c .column)) p
+  only-place : (fuel : ℕ) (c : Cell) (p : ℕ) → cellsLeft fuel c p ≡ cellsLeft fuel (lastOf (c .row) (c .column)) p
   unfolding toEnd inRecord cell above
   only-place zero c p = refl
   only-place (suc fuel) c p = refl
 
-  none-more : (fuel : ℕ) (last : Cell) (p : ℕ) → p ≡ length s → cellsFrom fuel last p ≡ got [] p
+  none-more : (fuel : ℕ) (last : Cell) (p : ℕ) → p ≡ length s → cellsLeft fuel last p ≡ got [] p
   unfolding toEnd
   none-more zero last p e = refl
   none-more (suc fuel) last p e = rw (eq-eqb p (length s) e)
 
   module _ {cells : List ℕ} {over by p : ℕ} (v : SoFar cells over by p) where
     module _ (l : p < length s) where
-      turned : cellsRead ≡ prepend (v .items) (bind (oneCell (lastOf over by) p) (λ c. cellsFrom (v .fuel - 1) c >>= λ cs. done (c ∷ cs)))
+      turned : cellsRead ≡ prepend (v .items) (bind (oneCell (lastOf over by) p) (λ c. cellsLeft (v .fuel - 1) c >>= λ cs. done (c ∷ cs)))
       turned = v .read ∙ ap (prepend (v .items)) (one-more (v .fuel) (lastOf over by) p l (v .enough))
 
       pub far-on : (row column place rights q : ℕ) → oneCell (lastOf over by) p ≡ got (cellWith row column rights) q →
@@ -265,17 +266,19 @@ module _ (s : List ℕ) (h : Head) (th : Things) (n at : ℕ) where
             fuel = v .fuel - 1;
             inside = in-s;
             enough = omega (arith, v .enough);
-            read = turned ∙ rw e (prepend-one (v .items) (cellWith row column rights) (cellsFrom (v .fuel - 1) (cellWith row column rights) q)
+            read = turned ∙ rw e (prepend-one (v .items) (cellWith row column rights) (cellsLeft (v .fuel - 1) (cellWith row column rights) q)
                 ∙ ap (prepend (v .items ++ cellWith row column rights ∷ [])) (only-place (v .fuel - 1) (cellWith row column rights) q));
-            stored = rw (ep, v .stored) (stored-on n (th .ids) (replicate 2304 0) (v .items) (cellWith row column rights));
+            stored = rw (ep, v .stored) (stored-on n (th .ids) cells₀ (v .items) (cellWith row column rights));
           }
 
       pub far-stop : (k q : ℕ) → oneCell (lastOf over by) p ≡ fault (record { number = k; at = q }) →
-          record { answer = reading.Refused k q; cells = replicate 2304 0 } ≡ asCellsRead n (th .ids) cellsRead
-      far-stop k q e = rw (turned, e)
+          CellsRead n (th .ids) cells₀ (reading.Refused k q) cells cellsRead
+      unfolding CellsRead
+      far-stop k q e = rw (turned, e) refl
 
-    pub far-all : length s ≤ p → record { answer = reading.Done p; cells = cells } ≡ asCellsRead n (th .ids) cellsRead
-    far-all l = rw (v .read, none-more (v .fuel) (lastOf over by) p (omega (arith, v .inside)), append-nil, v .stored)
+    pub far-all : length s ≤ p → CellsRead n (th .ids) cells₀ (reading.Done p) cells cellsRead
+    unfolding CellsRead
+    far-all l = rw (v .read, none-more (v .fuel) (lastOf over by) p (omega (arith, v .inside)), append-nil) (refl, v .stored)
 
 -- ---- cells that are copied one a turn
 pub copied-on : (cells from : List ℕ) (k : ℕ) → k < length cells → k < length from → take k cells ≡ take k from →
@@ -283,14 +286,18 @@ pub copied-on : (cells from : List ℕ) (k : ℕ) → k < length cells → k < l
 copied-on cells from k h g e = rw (add-one, take-suc-set cells k (getD from k 0) h, e, take-suc from k 0 g)
 
 -- ---- the cells put in the lent ones, or not
-module _ (th things : Things) (cells : List ℕ) (r w : CellsRead) (er : r ≡ w) where
-  pub finish-refused : (k q : ℕ) → r .answer ≡ reading.Refused k q → (m : MatrixAnswer) → m ≡ refusedBy things (record-answer.Refused k q) →
-      _≡_ {A = MatrixAnswer × List ℕ} (m, cells) (finished th things cells w)
-  finish-refused k q e m em = rw (em, ← er, e)
+module _ (n : ℕ) (th things : Things) (cells : List ℕ) (r : Reading) (new : List ℕ) where
+  pub finish-refused : (w : Read ℕ Refusal (List Cell)) → CellsRead n (th .ids) (replicate 2304 0) r new w → (k q : ℕ) → r ≡ reading.Refused k q →
+      (m : MatrixAnswer) → m ≡ refusedBy things (record-answer.Refused k q) → _≡_ {A = MatrixAnswer × List ℕ} (m, cells) (finished n th things cells w)
+  unfolding CellsRead finished
+  finish-refused (got cs j) v k q e m em = let f = v .0 in apart (cc)
+  finish-refused (fault f) v k q e m em = let x : k ≡ f .number = cc in let y : q ≡ f .at = cc in rw (em, x, y)
 
-  pub finish-done : (next : ℕ) → r .answer ≡ reading.Done next → (new : List ℕ) → new ≡ r .cells →
-      _≡_ {A = MatrixAnswer × List ℕ} (record { answer = reading.Done next; things = th }, new) (finished th things cells w)
-  finish-done next e new en = rw (en, ← er, e)
+  pub finish-done : (w : Read ℕ Refusal (List Cell)) → CellsRead n (th .ids) (replicate 2304 0) r new w → (next : ℕ) → r ≡ reading.Done next →
+      (all : List ℕ) → all ≡ new → _≡_ {A = MatrixAnswer × List ℕ} (record { answer = reading.Done next; things = th }, all) (finished n th things cells w)
+  unfolding CellsRead finished
+  finish-done (got cs j) v next e all ea = let f = v .0 in let x : next ≡ j = cc in rw (x, ea, v .1)
+  finish-done (fault f) v next e all ea = apart (cc)
 
 -- ---- a head's record, and the things behind it
 head-got : (m : Read (List ℕ) ℕ ℕ) (count : ℕ) → asHead m ≡ head-is.Good count → (r : List ℕ) × (m ≡ got count r)
@@ -385,62 +392,73 @@ module _ (h : Head) (th : Things) (n : ℕ) (long : n ≤ length (th .ids)) wher
   stored-all (also {c = c} p q) cells = rw (same-place c p) (stored-all q (store th cells c))
 
 -- ---- a matrix
-module _ (s : List ℕ) (scheme : Scheme) (things : Things) (cells : List ℕ) where
+module _ (s : List ℕ) (h : Head) (things : Things) (cells : List ℕ) where
   abbrev answered : MatrixAnswer × List ℕ
-  answered = readMatrix s scheme things cells
+  answered = readMatrixByHead s h things cells
 
   pub matrix-room : (length cells ≡ 2304 → ⊥) → (m : MatrixAnswer) → m ≡ refusedBy things (record-answer.Refused 27 0) →
       _≡_ {A = MatrixAnswer × List ℕ} (m, cells) answered
-  unfolding readMatrix
-  matrix-room n m em = rw (em, ne-eqb (length cells) 2304 n) (go (acceptedScheme scheme))
+  unfolding readMatrixByHead
+  matrix-room n m em = rw (em, ne-eqb (length cells) 2304 n) (go (passes (headFault h)))
     where
       go : (b : Bool) → _≡_ {A = MatrixAnswer × List ℕ} (refusedBy things (record-answer.Refused 27 0), cells)
-          (cond (b && false) (asMatrix things cells (matrix (scheme .head) s 0)) (refusedBy things (record-answer.Refused 27 0), cells))
+          (cond (b && false) (asMatrix things cells (matrix h s 0)) (refusedBy things (record-answer.Refused 27 0), cells))
       go true = refl
       go false = refl
 
-  pub matrix-scheme : acceptedScheme scheme ≡ false → (m : MatrixAnswer) → m ≡ refusedBy things (record-answer.Refused 27 0) →
+  pub matrix-head : passes (headFault h) ≡ false → (m : MatrixAnswer) → m ≡ refusedBy things (record-answer.Refused 27 0) →
       _≡_ {A = MatrixAnswer × List ℕ} (m, cells) answered
-  unfolding readMatrix
-  matrix-scheme e m em = rw (em, e)
+  unfolding readMatrixByHead
+  matrix-head e m em = rw (em, e)
 
-  module _ (ok : acceptedScheme scheme ≡ true) (room : length cells ≡ 2304) where
-    read-opened : answered ≡ asMatrix things cells (matrix (scheme .head) s 0)
-    unfolding readMatrix
+  module _ (ok : passes (headFault h) ≡ true) (room : length cells ≡ 2304) where
+    read-opened : answered ≡ asMatrix things cells (matrix h s 0)
+    unfolding readMatrixByHead
     read-opened = rw (ok, eq-eqb (length cells) 2304 room)
 
     module _ (k q : ℕ) (m : MatrixAnswer) (em : m ≡ refusedBy things (record-answer.Refused k q)) where
-      pub matrix-no-head : headRead s (scheme .head) ≡ fault (record { number = k; at = q }) → _≡_ {A = MatrixAnswer × List ℕ} (m, cells) answered
+      pub matrix-no-head : headRead s h ≡ fault (record { number = k; at = q }) → _≡_ {A = MatrixAnswer × List ℕ} (m, cells) answered
       unfolding matrix
       matrix-no-head e = rw (em, read-opened, e)
 
-      pub matrix-no-things : (count at : ℕ) → headRead s (scheme .head) ≡ got count at →
-          thingsRead s (scheme .head) count at ≡ fault (record { number = k; at = q }) → _≡_ {A = MatrixAnswer × List ℕ} (m, cells) answered
+      pub matrix-no-things : (count at : ℕ) → headRead s h ≡ got count at →
+          thingsRead s h count at ≡ fault (record { number = k; at = q }) → _≡_ {A = MatrixAnswer × List ℕ} (m, cells) answered
       unfolding matrix
       matrix-no-things count at e f = rw (em, read-opened, e, f)
 
-    module _ (g : Bytes s) (count at : ℕ) (e : headRead s (scheme .head) ≡ got count at) (ts : List Thing) (next : ℕ)
-        (f : thingsRead s (scheme .head) count at ≡ got ts next) where
+    module _ (g : Bytes s) (count at : ℕ) (e : headRead s h ≡ got count at) (ts : List Thing) (next : ℕ)
+        (f : thingsRead s h count at ≡ got ts next) where
       abbrev cellsOn : List Thing → Read ℕ Refusal (List Cell)
-      cellsOn ts = toEnd s (λ last. inRecord s 32 (λ kind. cell (scheme .head) ts last)) (λ last c. c) (length s) start next
+      cellsOn ts = toEnd s (λ last. inRecord s 32 (λ kind. cell h ts last)) (λ last c. c) (length s) start next
 
       same-answer : (m : Read ℕ Refusal (List Cell)) →
           ((cs : List Cell) (j : ℕ) → m ≡ got cs j →
           storedIn count (thingsFrom ts .ids) (replicate 2304 0) cs ≡ storeAll (thingsFrom ts) (replicate 2304 0) cs) →
-          finished (thingsFrom ts) things cells (asCellsRead count (thingsFrom ts .ids) m) ≡ asMatrix things cells (bind m (λ cs. done (matrixFrom ts cs)))
-      unfolding matrixFrom
-      same-answer (got cs j) h = rw (h cs j refl)
-      same-answer (fault f) h = refl
+          finished count (thingsFrom ts) things cells m ≡ asMatrix things cells (bind m (λ cs. done (matrixFrom ts cs)))
+      unfolding matrixFrom finished
+      same-answer (got cs j) k = rw (k cs j refl)
+      same-answer (fault f) k = refl
 
       pub matrix-done : (th : Things) → th ≡ thingsFrom ts → (x : MatrixAnswer × List ℕ) →
-          x ≡ finished th things cells (asCellsRead count (th .ids) (cellsOn (listed count (th .ids) (th .types)))) → x ≡ answered
+          x ≡ finished count th things cells (cellsFrom s h th count next) → x ≡ answered
       unfolding matrix
       matrix-done th et x ex =
-          let z = sized scheme (from-true ok) in
-          let (rise, n, near) = things-end s (scheme .head) z g count at e ts next f in
-          let few : length ts ≤ 48 = omega (arith, head-few s (scheme .head) z g count at e) in
-          let long : count ≤ length (thingsFrom ts .ids) = omega (arith, from-held (scheme .head) ts rise few .idRoom) in
+          let z = head-sized h (from-true ok) in
+          let (rise, n, near) = things-end s h z g count at e ts next f in
+          let few : length ts ≤ 48 = omega (arith, head-few s h z g count at e) in
+          let long : count ≤ length (thingsFrom ts .ids) = omega (arith, from-held h ts rise few .idRoom) in
           let all : listed count (thingsFrom ts .ids) (thingsFrom ts .types) ≡ ts = rw (← n) (listed-from ts) in
-          let same = same-answer (cellsOn ts) (λ cs j c. stored-all (scheme .head) (thingsFrom ts) count long
-          (rw all (cells-back (scheme .head) z s ts g next j cs near c .2)) (replicate 2304 0)) in
+          let same = same-answer (cellsOn ts) (λ cs j c. stored-all h (thingsFrom ts) count long
+          (rw all (cells-back h z s ts g next j cs near c .2)) (replicate 2304 0)) in
           ex ∙ rw (et, all, read-opened, e, f) same
+
+-- ---- against a whole scheme
+module _ (bytes : List ℕ) (s : Scheme) (things : Things) (cells : List ℕ) where
+  pub matrix-scheme : acceptedScheme s ≡ false → (m : MatrixAnswer) → m ≡ refusedBy things (record-answer.Refused 27 0) →
+      _≡_ {A = MatrixAnswer × List ℕ} (m, cells) (readMatrix bytes s things cells)
+  unfolding readMatrix
+  matrix-scheme e m em = rw (em, e)
+
+  pub by-head : T (acceptedScheme s) → readMatrix bytes s things cells ≡ readMatrixByHead bytes (s .head) things cells
+  unfolding readMatrix readMatrixByHead
+  by-head t = rw (is-true (acceptedScheme s) t, is-true (passes (headFault (s .head))) (head-passes s t))

@@ -9,6 +9,7 @@ use lib.Dec.{T, leb, leb→le}
 use lib.ListN.{length}
 use lib.Seq.{drop-length}
 use borrow.Author.Tests.{leb-true, leb-false}
+use Rattle.model.specs.Check.{passes}
 use Rattle.model.specs.Seats.{Matrix, known, seat, standsFor}
 use Rattle.model.specs.Accepted.{between, headFault, acceptedScheme}
 use Rattle.model.specs.declared.Head.{Head}
@@ -31,9 +32,16 @@ use Rattle.matrix_bytes.proofs.Cells.{cells-between, cells-each, cells-
 use Rattle.matrix_bytes.proofs.Stored.{from-accepted, from-rights, cells-again}
 use Rattle.matrix_bytes.proofs.Trips.{Sized, stand-le, head-record, things-trip, cells-there, cells-back}
 
+pub head-sized : (h : Head) → T (passes (headFault h)) → Sized h
+unfolding headFault between
+head-sized h t = search (and-left, and-right, must-pass, first-pass, then-pass, leb→le) depth 8
+
+pub head-passes : (s : Scheme) → T (acceptedScheme s) → T (passes (headFault (s .head)))
+unfolding acceptedScheme
+head-passes s t = search and-left
+
 pub sized : (s : Scheme) → T (acceptedScheme s) → Sized (s .head)
-unfolding acceptedScheme headFault between
-sized s t = search (and-left, and-right, must-pass, first-pass, then-pass, leb→le) depth 8
+sized s t = head-sized (s .head) (head-passes s t)
 
 -- an id above 65535 is no thing's
 too-high : (h : Head) (m : Matrix) → Held h m → (x y : ℕ) → 65535 < y → standsFor m .rights x y ≡ 0

@@ -3,16 +3,18 @@
 use Prim.Native.Nat.{ℕ, zero, suc, _+_, _*_, _^_}
 use mathlib.Core.Bool.{cond, not, _&&_}
 use mathlib.Core.List.{List, [], _∷_}
+use mathlib.Core.Path.{_≡_}
 use lib.Dec.{eqb, ltb}
 use lib.ListN.{length, take, set, replicate}
 use Rattle.rights.specs.declared.ThingType.{ThingType}
-use Rattle.model.specs.Seats.{Matrix, find, noType}
-use Rattle.model.specs.Accepted.{acceptedScheme}
+use Rattle.model.specs.Check.{passes}
+use Rattle.model.specs.Seats.{Matrix, find}
+use Rattle.model.specs.Accepted.{headFault, acceptedScheme}
 use Rattle.model.specs.declared.Head.{Head}
 use Rattle.model.specs.declared.Scheme.{Scheme}
 use Rattle.model.specs.declared.Things.{Things}
 use Rattle.records.specs.Reading.{Read, got, fault, Body, _>>=_, _>>_, done, check, number}
-use Rattle.records.specs.Front.{Refusal}
+use Rattle.records.specs.Front.{Refusal, inRecord}
 use Rattle.records.specs.declared.RecordAnswer.{RecordAnswer}
 use Rattle.records.specs.declared.RecordAnswer.the-variants as record-answer
 use Rattle.records.specs.declared.Field8.{Field8}
@@ -20,7 +22,7 @@ use Rattle.records.specs.declared.Field8.the-variants as field8
 use Rattle.records.specs.declared.Reading.{Reading}
 use Rattle.records.specs.declared.Reading.the-variants.{Done, Refused}
 use Rattle.matrix_bytes.specs.Content.{Thing, Cell, thingsFrom}
-use Rattle.matrix_bytes.specs.Read.{matrix}
+use Rattle.matrix_bytes.specs.Read.{cell as cellIn, start, toEnd, matrix}
 use Rattle.matrix_bytes.specs.declared.answers.HeadAnswer.{HeadAnswer}
 use Rattle.matrix_bytes.specs.declared.answers.HeadAnswer.the-variants as head
 use Rattle.matrix_bytes.specs.declared.answers.ThingAnswer.{ThingAnswer}
@@ -32,7 +34,6 @@ use Rattle.matrix_bytes.specs.declared.answers.ThingAt.the-variants as t
 use Rattle.matrix_bytes.specs.declared.answers.CellAt.{CellAt}
 use Rattle.matrix_bytes.specs.declared.answers.CellAt.the-variants as cell-at
 use Rattle.matrix_bytes.specs.declared.answers.ThingsRead.{ThingsRead}
-use Rattle.matrix_bytes.specs.declared.answers.CellsRead.{CellsRead}
 use Rattle.matrix_bytes.specs.declared.answers.MatrixAnswer.{MatrixAnswer}
 
 -- the first n seats as a list of things, and a place as the cell that stands there
@@ -83,11 +84,6 @@ abbrev pub asCellAt : ℕ → List ℕ → Read ℕ Refusal Cell → CellAt
 asCellAt n ids (got c next) = cell-at.Good (c .row) (c .column) (placeIn n ids c) (c .rights) next
 asCellAt n ids (fault f) = cell-at.Refused (f .number) (f .at)
 
--- a record's refusal as it is passed up; it is asked of no record
-abbrev pub refusalOf : {A : Type 0} → RecordAnswer → Read ℕ Refusal A
-refusalOf (record-answer.Record kind start len) = fault (record { number = 0; at = 0 })
-refusalOf (record-answer.Refused k q) = fault (record { number = k; at = q })
-
 -- ---- lists, in their arrays
 unfoldable pub storedIn : ℕ → List ℕ → List ℕ → List Cell → List ℕ
 storedIn n ids cells [] = cells
@@ -97,21 +93,24 @@ abbrev pub asThingsRead : Read ℕ Refusal (List Thing) → ThingsRead
 asThingsRead (got ts next) = record { answer = Done next; things = thingsFrom ts }
 asThingsRead (fault f) = record { answer = Refused (f .number) (f .at); things = thingsFrom [] }
 
-abbrev pub asCellsRead : ℕ → List ℕ → Read ℕ Refusal (List Cell) → CellsRead
-asCellsRead n ids (got cs next) = record { answer = Done next; cells = storedIn n ids (replicate 2304 0) cs }
-asCellsRead n ids (fault f) = record { answer = Refused (f .number) (f .at); cells = replicate 2304 0 }
+-- the cells from a position to the end of the input, of the first n things
+abbrev pub cellsFrom : List ℕ → Head → Things → ℕ → ℕ → Read ℕ Refusal (List Cell)
+cellsFrom s h th n =
+    toEnd s (λ last. inRecord s 32 (λ kind. cellIn h (listed n (th .ids) (th .types)) last)) (λ last c. c) (length s) start
+
+-- the answer, and what it leaves of the lent cells; where it is a refusal, nobody looks at them
+unfoldable pub CellsRead : ℕ → List ℕ → List ℕ → Reading → List ℕ → Read ℕ Refusal (List Cell) → Type 0
+CellsRead n ids cells answer new (got cs next) = (answer ≡ Done next) × (new ≡ storedIn n ids cells cs)
+CellsRead n ids cells answer new (fault f) = answer ≡ Refused (f .number) (f .at)
 
 -- ---- a matrix: the things, and what the lent cells then hold; where it is refused, both as they stood
 abbrev pub refusedBy : Things → RecordAnswer → MatrixAnswer
 refusedBy things (record-answer.Record kind start len) = record { answer = Refused 0 0; things = things }
 refusedBy things (record-answer.Refused k q) = record { answer = Refused k q; things = things }
 
-abbrev pub finishedBy : Things → Things → List ℕ → List ℕ → Reading → MatrixAnswer × List ℕ
-finishedBy th things cells new (Done next) = (record { answer = Done next; things = th }, new)
-finishedBy th things cells new (Refused k q) = (record { answer = Refused k q; things = things }, cells)
-
-abbrev pub finished : Things → Things → List ℕ → CellsRead → MatrixAnswer × List ℕ
-finished th things cells r = finishedBy th things cells (r .cells) (r .answer)
+unfoldable pub finished : ℕ → Things → Things → List ℕ → Read ℕ Refusal (List Cell) → MatrixAnswer × List ℕ
+finished n th things cells (got cs next) = (record { answer = Done next; things = th }, storedIn n (th .ids) (replicate 2304 0) cs)
+finished n th things cells (fault f) = (record { answer = Refused (f .number) (f .at); things = things }, cells)
 
 abbrev pub asMatrix : Things → List ℕ → Read ℕ Refusal Matrix → MatrixAnswer × List ℕ
 asMatrix things cells (got m next) = (record { answer = Done next; things = m .things }, m .cells)
@@ -121,4 +120,10 @@ asMatrix things cells (fault f) = (record { answer = Refused (f .number) (f .at)
 unfoldable pub readMatrix : List ℕ → Scheme → Things → List ℕ → MatrixAnswer × List ℕ
 readMatrix bytes s things cells =
     cond (acceptedScheme s && eqb (length cells) 2304) (asMatrix things cells (matrix (s .head) bytes 0))
+    (record { answer = Refused 27 0; things = things }, cells)
+
+-- the same where the head is all that is known of the scheme
+unfoldable pub readMatrixByHead : List ℕ → Head → Things → List ℕ → MatrixAnswer × List ℕ
+readMatrixByHead bytes h things cells =
+    cond (passes (headFault h) && eqb (length cells) 2304) (asMatrix things cells (matrix h bytes 0))
     (record { answer = Refused 27 0; things = things }, cells)

@@ -4,6 +4,5 @@ pub mod Content
 pub mod Read
 pub mod Write
 pub mod Answers
-pub mod Seated
 pub mod Promises
 pub mod FunctionTrips

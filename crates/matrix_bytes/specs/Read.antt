@@ -10,7 +10,7 @@ use Rattle.rights.specs.declared.ThingType.{ThingType}
 use Rattle.model.specs.Scheme.{isSubject}
 use Rattle.model.specs.Seats.{Matrix}
 use Rattle.model.specs.declared.Head.{Head}
-use Rattle.records.specs.Reading.{Read, got, fault, Reader, Body, _>>=_, _>>_, done, check, steps, field, number}
+use Rattle.records.specs.Reading.{got, Reader, Body, _>>=_, _>>_, done, check, steps, field, number}
 use Rattle.records.specs.Front.{Refusal, inRecord}
 use Rattle.matrix_bytes.specs.Content.{Thing, Cell, matrixFrom}
 

@@ -4,8 +4,9 @@ use Prim.Native.Nat.{ℕ}
 use mathlib.Core.Bool.{cond, _&&_}
 use mathlib.Core.List.{List, [], _∷_, _++_}
 use lib.ListN.{length}
+use Rattle.model.specs.Check.{passes}
 use Rattle.model.specs.Seats.{Matrix}
-use Rattle.model.specs.Accepted.{acceptedScheme, acceptedMatrix}
+use Rattle.model.specs.Accepted.{headFault, acceptedScheme, acceptedMatrix}
 use Rattle.model.specs.declared.Head.{Head}
 use Rattle.model.specs.declared.Scheme.{Scheme}
 use Rattle.records.specs.Bytes.{littleEndian, recordBytes}
@@ -36,3 +37,8 @@ matrixBytes h m =
 unfoldable pub writeMatrix : List ℕ → Scheme → Matrix → Writing × List ℕ
 writeMatrix out s m =
     cond (acceptedScheme s && acceptedMatrix (s .head) m) (writeBytes out 0 (matrixBytes (s .head) m)) (Refused 27, out)
+
+-- the same where the head is all that is known of the scheme
+unfoldable pub writeMatrixByHead : List ℕ → Head → Matrix → Writing × List ℕ
+writeMatrixByHead out h m =
+    cond (passes (headFault h) && acceptedMatrix h m) (writeBytes out 0 (matrixBytes h m)) (Refused 27, out)

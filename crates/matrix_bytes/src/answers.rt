@@ -55,8 +55,3 @@ pub struct ThingsRead {
     pub answer: Reading,
     pub things: Things,
 }
-
-pub struct CellsRead {
-    pub answer: Reading,
-    pub cells: [u64; 2304],
-}

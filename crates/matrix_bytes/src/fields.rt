@@ -17,7 +17,7 @@ ghost use Rattle.records.specs.Reading.{whole};
 ghost use Rattle.matrix_bytes.specs.Read.{head, thing, cell, above};
 ghost use Rattle.matrix_bytes.specs.Answers.{asHead, asThing, asRights, asCell, rightsOf, listed, lastOf};
 
-pub fn head_of(b: &[u8], h: Head) -> HeadAnswer
+pub(crate) fn head_of(b: &[u8], h: Head) -> HeadAnswer
     ensures { λ r. ⌜ r ≡ asHead (whole (head h) (now (b .entry))) ⌝ }
 {
     let n = match records::field_at(b, 0, 1, 65, 4) {
@@ -38,7 +38,7 @@ pub fn head_of(b: &[u8], h: Head) -> HeadAnswer
 }
 
 // A thing behind one with this id, 0 for none.
-pub fn thing_of(b: &[u8], h: Head, last: u16) -> ThingAnswer
+pub(crate) fn thing_of(b: &[u8], h: Head, last: u16) -> ThingAnswer
     ensures { λ r. ⌜ r ≡ asThing (whole (thing h last) (now (b .entry))) ⌝ }
 {
     let id = match records::field2_at(b, 0) {
@@ -62,7 +62,7 @@ pub fn thing_of(b: &[u8], h: Head, last: u16) -> ThingAnswer
 }
 
 // The seat of a thing among the first n, or n.
-pub fn seat_in(ids: [u16; 48], n: usize, x: u16) -> usize
+pub(crate) fn seat_in(ids: [u16; 48], n: usize, x: u16) -> usize
     requires { ⌜ n ≤ 48 ⌝ }
     ensures { λ r. ⌜ r ≡ find (take n ids) x ⌝ }
 {
@@ -109,7 +109,7 @@ fn rights_of(b: &[u8], h: Head) -> Field8
 }
 
 // A cell of the first n things, behind one at a row and a column.
-pub fn cell_of(b: &[u8], h: Head, th: Things, n: usize, over: u16, by: u16) -> CellAnswer
+pub(crate) fn cell_of(b: &[u8], h: Head, th: Things, n: usize, over: u16, by: u16) -> CellAnswer
     requires { ⌜ n ≤ 48 ⌝ }
     ensures { λ r. ⌜ r ≡ asCell n (th .ids) (whole (cell h (listed n (th .ids) (th .types)) (lastOf over by)) (now (b .entry))) ⌝ }
 {

@@ -1,7 +1,6 @@
 // Reading a matrix: its head, its things one by one, its cells to the end. Nothing that was lent is stored to before all of it has been read.
 use crate::answers::CellAnswer;
 use crate::answers::CellAt;
-use crate::answers::CellsRead;
 use crate::answers::HeadAnswer;
 use crate::answers::MatrixAnswer;
 use crate::answers::ThingAnswer;
@@ -10,6 +9,8 @@ use crate::answers::ThingsRead;
 use crate::fields::cell_of;
 use crate::fields::head_of;
 use crate::fields::thing_of;
+use accepted::Checked;
+use accepted::head_fault;
 use accepted::scheme_accepted;
 use model::Head;
 use model::Scheme;
@@ -22,11 +23,11 @@ ghost use mathlib.Core.Path.{_≡_};
 ghost use mathlib.Core.List.{List, []};
 ghost use Prim.Native.Nat.{ℕ, _≤_, _<_};
 ghost use lib.ListN.{length};
-ghost use Rattle.records.specs.Reading.{fault, steps};
-ghost use Rattle.records.specs.Front.{inRecord};
+ghost use Rattle.records.specs.Reading.{steps};
+ghost use Rattle.records.specs.Front.{inRecord, refusalOf};
 ghost use Rattle.matrix_bytes.specs.Content.{thingsFrom};
-ghost use Rattle.matrix_bytes.specs.Read.{thing, cell, start, toEnd};
-ghost use Rattle.matrix_bytes.specs.Answers.{asThingAt, asCellAt, asThingsRead, asCellsRead, refusalOf, refusedBy, finished, listed, lastOf, readMatrix};
+ghost use Rattle.matrix_bytes.specs.Read.{thing, cell};
+ghost use Rattle.matrix_bytes.specs.Answers.{asThingAt, asCellAt, asThingsRead, CellsRead, refusedBy, finished, listed, lastOf, cellsFrom, readMatrix, readMatrixByHead};
 
 // ---- things
 
@@ -156,11 +157,10 @@ fn read_cell(s: &[u8], at: usize, h: Head, th: Things, n: usize, over: u16, by: 
 }
 
 // All cells to the end of the input, each at its place.
-fn read_cells(s: &[u8], at: usize, h: Head, th: Things, n: usize) -> CellsRead
-    requires { ⌜ (n ≤ 48) × (at ≤ length (now s)) ⌝ }
-    ensures { λ r. ⌜ r ≡ asCellsRead n (th .ids) (toEnd (now (s .entry)) (λ last. inRecord (now (s .entry)) 32 (λ kind. cell h (listed n (th .ids) (th .types)) last)) (λ last c. c) (length (now (s .entry))) start at) ⌝ }
+fn read_cells(s: &[u8], at: usize, h: Head, th: Things, n: usize, cells: &mut [u64]) -> Reading
+    requires { ⌜ (n ≤ 48) × (at ≤ length (now s)) × (length (now cells) ≡ 2304) ⌝ }
+    ensures { λ r. ⌜ CellsRead n (th .ids) (now (cells .entry)) r (now (cells .exit)) (cellsFrom (now (s .entry)) h th n at) ⌝ }
 {
-    let mut cells = [0u64; 2304];
     let mut over: u16 = 0;
     let mut by: u16 = 0;
     let mut p = at;
@@ -179,17 +179,11 @@ fn read_cells(s: &[u8], at: usize, h: Head, th: Things, n: usize) -> CellsRead
                 p = next;
             }
             CellAt::Refused { number, at: q } => {
-                return CellsRead {
-                    answer: Reading::Refused { number, at: q },
-                    cells: [0; 2304],
-                };
+                return Reading::Refused { number, at: q };
             }
         }
     }
-    CellsRead {
-        answer: Reading::Done { next: p },
-        cells,
-    }
+    Reading::Done { next: p }
 }
 
 fn copy_cells(cells: &mut [u64], from: [u64; 2304])
@@ -238,12 +232,10 @@ fn finish(
     cells: &mut [u64],
 ) -> MatrixAnswer
     requires { ⌜ (n ≤ 48) × (at ≤ length (now s)) × (length (now cells) ≡ 2304) ⌝ }
-    ensures { λ r. ⌜ _≡_ {A = MatrixAnswer × List ℕ} (r, now (cells .exit)) (finished th things (now (cells .entry)) (asCellsRead n (th .ids) (toEnd (now (s .entry)) (λ last. inRecord (now (s .entry)) 32 (λ kind. cell h (listed n (th .ids) (th .types)) last)) (λ last c. c) (length (now (s .entry))) start at))) ⌝ }
+    ensures { λ r. ⌜ _≡_ {A = MatrixAnswer × List ℕ} (r, now (cells .exit)) (finished n th things (now (cells .entry)) (cellsFrom (now (s .entry)) h th n at)) ⌝ }
 {
-    let read = read_cells(s, at, h, th, n);
-    let answer = read.answer;
-    let new = read.cells;
-    match answer {
+    let mut new = [0u64; 2304];
+    match read_cells(s, at, h, th, n, &mut new) {
         Reading::Refused { number, at: q } => refused(number, q, things),
         Reading::Done { next } => {
             copy_cells(cells, new);
@@ -259,13 +251,24 @@ fn finish(
 pub fn read_matrix(s: &[u8], scheme: Scheme, things: Things, cells: &mut [u64]) -> MatrixAnswer
     ensures { λ r. ⌜ _≡_ {A = MatrixAnswer × List ℕ} (r, now (cells .exit)) (readMatrix (now (s .entry)) scheme things (now (cells .entry))) ⌝ }
 {
-    if cells.len() != 2304 {
-        return refused(27, 0, things);
-    }
     if !scheme_accepted(scheme) {
         return refused(27, 0, things);
     }
     let h = scheme.head;
+    read_matrix_by_head(s, h, things, cells)
+}
+
+// The same against a scheme's head alone, for callers that know the scheme to be accepted: 27 for a head that no reading gives.
+pub fn read_matrix_by_head(s: &[u8], h: Head, things: Things, cells: &mut [u64]) -> MatrixAnswer
+    ensures { λ r. ⌜ _≡_ {A = MatrixAnswer × List ℕ} (r, now (cells .exit)) (readMatrixByHead (now (s .entry)) h things (now (cells .entry))) ⌝ }
+{
+    if cells.len() != 2304 {
+        return refused(27, 0, things);
+    }
+    let checked = head_fault(h);
+    let Checked::Fine = checked else {
+        return refused(27, 0, things);
+    };
     let found = records::record_at(s, 0, Kinds(8));
     let RecordAnswer::Record {
         kind: _,

@@ -1,14 +1,15 @@
 -- Laws of Booleans and of checks that every other file of proofs cites.
 -- Assumes nothing.
-use Prim.Native.Nat.{ℕ}
+use Prim.Native.Nat.{ℕ, _≤_}
+use native.Mathlib.Omega.{arith}
 use mathlib.Core.Path.{_≡_, refl}
 use mathlib.Core.Logic.{_≢_}
 use mathlib.Core.Bool.{Bool, true, false, not, cond, _&&_, _||_}
 use mathlib.Core.Option.{none, some}
 use mathlib.Core.List.{List, [], _∷_}
-use lib.Dec.{T, eqb, eqb→eq}
+use lib.Dec.{T, eqb, eqb→eq, leb, le→leb}
 use Rattle.model.specs.Check.{Fault, _orElse_, must, passes, all}
-use Rattle.model.specs.Accepted.{firstFault}
+use Rattle.model.specs.Accepted.{between, firstFault}
 
 pub is-true : (b : Bool) → T b → b ≡ true
 is-true true t = refl
@@ -51,7 +52,13 @@ not-both false t u = t
 pub eqb-not : (a b : ℕ) → a ≢ b → eqb a b ≡ false
 eqb-not a b h = is-false (eqb a b) (λ t. h (eqb→eq a b t))
 
--- ---- checks
+-- what is counted once if a test passes
+pub one-mono : (a b : Bool) → (T a → T b) → cond a 1 0 ≤ cond b 1 0
+one-mono true true h = omega arith
+one-mono true false h = absurd (h tt)
+one-mono false b h = omega arith
+
+-- ---- checks: what a check that passes says, and what makes it pass
 pub must-pass : (b : Bool) (k : ℕ) → T (passes (must b k)) → T b
 unfolding must passes
 must-pass true k t = tt
@@ -66,6 +73,20 @@ pub then-pass : (a b : Fault) → T (passes (a orElse b)) → T (passes b)
 unfolding _orElse_ passes
 then-pass none b t = t
 then-pass (some k) b t = absurd t
+
+pub must-true : (b : Bool) (k : ℕ) → T b → T (passes (must b k))
+unfolding must passes
+must-true true k t = tt
+must-true false k t = t
+
+pub both-pass : (a b : Fault) → T (passes a) → T (passes b) → T (passes (a orElse b))
+unfolding _orElse_ passes
+both-pass none b t u = u
+both-pass (some k) b t u = t
+
+pub between-is : (low high x : ℕ) → low ≤ x → x ≤ high → T (between low high x)
+unfolding between
+between-is low high x l h = and-both (leb low x) (leb x high) (le→leb low x l) (le→leb x high h)
 
 pub all-pass : {A : Type 0} (f : A → Fault) (xs : List A) → T (passes (firstFault f xs)) → T (all (λ x. passes (f x)) xs)
 unfolding firstFault all passes

@@ -73,13 +73,16 @@ module _ (th : Things) (x : ℕ) where
   unfolding known seat
   seat-is t = find-is (th .ids) x (search and-right)
 
-  pub some-known : T (isSome (thingAt th x)) → T (known th x)
+  pub is-known : isSome (thingAt th x) ≡ known th x
   unfolding thingAt isSome
-  some-known = go (known th x)
+  is-known = go (known th x)
     where
-      go : (b : Bool) → T (isSome (cond b (some (getD (th .types) (seat th x) noType)) none)) → T b
-      go true t = tt
-      go false t = t
+      go : (b : Bool) → isSome (cond b (some (getD (th .types) (seat th x) noType)) none) ≡ b
+      go true = refl
+      go false = refl
+
+  pub some-known : T (isSome (thingAt th x)) → T (known th x)
+  some-known t = rw is-known at t
 
   pub none-known : thingAt th x ≡ none → T (known th x) → ⊥
   unfolding thingAt

@@ -1,5 +1,6 @@
 -- The proofs of what `Promises` states, each in a file of its own (`Starred`, `InOrder`, `Joined`, `Population` for at most 48), and the laws behind them.
 pub mod Bools
+pub mod Padded
 pub mod Starred
 pub mod InOrder
 pub mod Form

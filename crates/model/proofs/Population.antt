@@ -27,8 +27,9 @@ use Rattle.model.specs.declared.Command.{Command}
 use Rattle.model.specs.declared.Head.{Head}
 use Rattle.model.specs.declared.Scheme.{Scheme}
 use Rattle.model.specs.declared.Things.{Things}
-use Rattle.model.proofs.Bools.{is-false, and-right, must-pass, then-pass, eqb-not}
+use Rattle.model.proofs.Bools.{is-false, and-right, must-pass, then-pass, eqb-not, one-mono}
 use Rattle.model.proofs.Held.{Held}
+use Rattle.model.proofs.Find.{is-known}
 use Rattle.model.proofs.HeldLaws.{first-apart, ids-apart, held}
 
 -- ---- counts
@@ -42,15 +43,6 @@ count-none : (k : ℕ) → countIds k (λ x. false) ≡ 0
 unfolding countIds
 count-none zero = refl
 count-none (suc k) = rw (count-none k)
-
-one-le : (b : Bool) → cond b 1 0 ≤ 1
-one-le true = omega arith
-one-le false = omega arith
-
-one-mono : (a b : Bool) → (T a → T b) → cond a 1 0 ≤ cond b 1 0
-one-mono true true h = omega arith
-one-mono true false h = absurd (h tt)
-one-mono false b h = omega arith
 
 count-mono : (k : ℕ) (f g : ℕ → Bool) → ((x : ℕ) → T (f x) → T (g x)) → countIds k f ≤ countIds k g
 unfolding countIds
@@ -68,7 +60,7 @@ module _ (f g : ℕ → Bool) (y : ℕ) (same : (x : ℕ) → x ≢ y → f x �
   count-change (suc k) = go (ℕ-discrete (suc k) y) (count-change k)
     where
       go : Dec (suc k ≡ y) → countIds k g ≤ suc (countIds k f) → countIds k g + cond (g (suc k)) 1 0 ≤ suc (countIds k f + cond (f (suc k)) 1 0)
-      go (yes e) h = omega (arith, count-below k (omega arith), one-le (g (suc k)))
+      go (yes e) h = omega (arith, count-below k (omega arith), one-mono (g (suc k)) true (λ t. tt))
       go (no n) h = rw (same (suc k) n) (omega arith)
 
   count-gain : (k : ℕ) → 1 ≤ y → y ≤ k → f y ≡ false → g y ≡ true → countIds k g ≡ suc (countIds k f)
@@ -122,12 +114,8 @@ taken-all (x ∷ xs) = go (eqb x 0) (taken-all xs)
     go false h = h ∙ sym (leb·suc-suc (length xs) (taken xs))
 
 thing-known : (th : Things) (x : ℕ) → 1 ≤ x → isSome (thingAt th x) ≡ among (th .ids) x
-unfolding isSome thingAt known
-thing-known th x h = rw (eqb-not x 0 (λ e. omega arith)) (go (among (th .ids) x) _)
-  where
-    go : (b : Bool) (t : ThingType) → isSome (cond b (some t) none) ≡ b
-    go true t = refl
-    go false t = refl
+unfolding known
+thing-known th x h = is-known th x ∙ rw (eqb-not x 0 (λ e. omega arith))
 
 population : (s : Head) (m : Matrix) → Held s m → howMany (standsFor m) ≡ taken (m .things .ids)
 unfolding howMany standsFor

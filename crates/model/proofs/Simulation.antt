@@ -34,7 +34,7 @@ use Rattle.model.proofs.Stands.{Cell, Stands, Agree}
 -- ---- two outcomes that agree
 
 -- the same checks first, of which the later ones need agree only if the earlier ones pass
-or-same : (a b f g : Fault) → a ≡ b → (T (passes b) → f ≡ g) → (a orElse f) ≡ (b orElse g)
+pub or-same : (a b f g : Fault) → a ≡ b → (T (passes b) → f ≡ g) → (a orElse f) ≡ (b orElse g)
 unfolding _orElse_ passes
 or-same none none f g e h = h tt
 or-same none (some k) f g e h = cc
@@ -42,7 +42,7 @@ or-same (some j) none f g e h = cc
 or-same (some j) (some k) f g e h = e
 
 module _ {M : Type 0} (R : M → State → Type 0) where
-  unless-agree : (f g : Fault) (o : Outcome M) (o′ : Outcome State) → f ≡ g → (T (passes g) → Agree R o o′) → Agree R (unlessFault f o) (unlessFault g o′)
+  pub unless-agree : (f g : Fault) (o : Outcome M) (o′ : Outcome State) → f ≡ g → (T (passes g) → Agree R o o′) → Agree R (unlessFault f o) (unlessFault g o′)
   unfolding unlessFault passes
   unless-agree none none o o′ e h = h tt
   unless-agree none (some k) o o′ e h = let z : _≡_ {A = ℕ} 0 1 = cc in absurd (omega arith)
@@ -58,11 +58,22 @@ module _ {M : Type 0} (R : M → State → Type 0) where
   then-agree S (refused j) (done p) f f′ a h = absurd a
   then-agree S (refused j) (refused k) f f′ a h = a
 
--- ---- what the place checks leave
+-- ---- the place checks
 
-record Placed (p : State) (new : Bool) (t : ThingType) (x : ℕ) : Type 0 where
-  id : T (isId x)
-  old : new ≡ false → p .typeOf x ≡ some t
+-- they ask for the things, and which parameters are new; for no more
+pub places-same : {M N : Type 0} (view : View M) (view′ : View N) (m : M) (m′ : N) → ((x : ℕ) → view .thing m x ≡ view′ .thing m′ x)
+    → (os os′ : List Operation) → ((q : ℕ) → isNew os q ≡ isNew os′ q) → (n : ℕ) (ts : List ThingType) (xs : List ℕ)
+    → placesFault view m os n ts xs ≡ placesFault view′ m′ os′ n ts xs
+unfolding placesFault placeFault
+places-same view view′ m m′ e os os′ new n [] xs = refl
+places-same view view′ m m′ e os os′ new n (t ∷ ts) [] = refl
+places-same view view′ m m′ e os os′ new n (t ∷ ts) (x ∷ xs) = rw (places-same view view′ m m′ e os os′ new (suc n) ts xs, new n, e x)
+
+-- what they leave
+
+pub record Placed (p : State) (new : Bool) (t : ThingType) (x : ℕ) : Type 0 where
+  pub id : T (isId x)
+  pub old : new ≡ false → p .typeOf x ≡ some t
 
 fits-type : (t : ThingType) (u : Option ThingType) → T (passes (typeFault t u)) → u ≡ some t
 unfolding typeFault passes
@@ -86,14 +97,27 @@ places-from p os n (t ∷ ts) (x ∷ xs) ok e zero h d = rw (add-zero n) (placed
 places-from p os n (t ∷ ts) (x ∷ xs) ok e (suc i) h d =
     rw (add-suc n i, ← suc-add n i) (places-from p os (suc n) ts xs (search then-pass) (omega arith) i (le-of-suc-le-suc h) d)
 
-placed-at : (p : State) (os : List Operation) (types : List ThingType) (ids : List ℕ) → T (passes (must (eqb (length ids) (length types)) 11))
+pub placed-at : (p : State) (os : List Operation) (types : List ThingType) (ids : List ℕ) → T (passes (must (eqb (length ids) (length types)) 11))
     → T (passes (placesFault papers p os 0 types ids)) → (q : Parameter) → q .0 < length types → Placed p (isNew os (q .0)) (typeAt types q) (idAt ids q)
 unfolding typeAt idAt
 placed-at p os types ids long ok q h = rw zero-add at (places-from p os 0 types ids ok (eqb→eq _ _ (must-pass _ 11 long)) (q .0) h (record { 0 = 0 }))
 
 -- every parameter that no operation is still to create names a thing of its type
-abbrev Fit : List ThingType → List ℕ → State → List Operation → Type 0
+abbrev pub Fit : List ThingType → List ℕ → State → List Operation → Type 0
 Fit types ids p os = (q : Parameter) → q .0 < length types → isNew os (q .0) ≡ false → p .typeOf (idAt ids q) ≡ some (typeAt types q)
+
+-- so the cell that a test, an enter or a delete names exists
+module _ (s : Head) (types : List ThingType) (ids : List ℕ) where
+  pub there : (p : State) (os : List Operation) → Fit types ids p os → (r : Right) (i j : Parameter) → Names s types r i j
+      → isNew os (i .0) ≡ false → isNew os (j .0) ≡ false → Cell s p (idAt ids i) (idAt ids j)
+  unfolding isSome
+  there p os fit r i j n oldRow oldColumn =
+      record {
+        row = typeAt types i;
+        rowIs = fit i (n .row) oldRow;
+        subject = n .subject;
+        column = rw (fit j (n .column) oldColumn) tt;
+      }
 
 now-same : (x : ℕ) (t : Option ThingType) (f : ℕ → Option ThingType) → nowIs x t f x ≡ t
 unfolding nowIs
@@ -111,34 +135,14 @@ absent (some a) t = absurd t
 -- ---- one request
 
 module _ {M : Type 0} (s : Head) (view : View M) (R : M → State → Type 0) (st : Stands s view R) where
-  places-same : (m : M) (p : State) → R m p → (os : List Operation) (n : ℕ) (ts : List ThingType) (xs : List ℕ)
-      → placesFault view m os n ts xs ≡ placesFault papers p os n ts xs
-  unfolding placesFault placeFault papers
-  places-same m p r os n [] xs = refl
-  places-same m p r os n (t ∷ ts) [] = refl
-  places-same m p r os n (t ∷ ts) (x ∷ xs) =
-      ap₂ (λ (u : Option ThingType) (f : Fault). (must (isId x) 12 orElse cond (isNew os n) none (typeFault t u)) orElse f)
-      (st .thing m p r x) (places-same m p r os (suc n) ts xs)
-
   module _ (types : List ThingType) (ids : List ℕ) where
-    there : (p : State) (os : List Operation) → Fit types ids p os → (r : Right) (i j : Parameter) → Names s types r i j
-        → isNew os (i .0) ≡ false → isNew os (j .0) ≡ false → Cell s p (idAt ids i) (idAt ids j)
-    unfolding isSome
-    there p os fit r i j n oldRow oldColumn =
-        record {
-          row = typeAt types i;
-          rowIs = fit i (n .row) oldRow;
-          subject = n .subject;
-          column = rw (fit j (n .column) oldColumn) tt;
-        }
-
     tests-same : (m : M) (p : State) → R m p → (os : List Operation) → Fit types ids p os → (ts : List Test) → Each (Tested s types os) ts
         → all (holds view m ids) ts ≡ all (holds papers p ids) ts
     unfolding all holds papers
     tests-same m p r os fit [] each = refl
     tests-same m p r os fit (t ∷ ts) (k, each) =
         ap₂ (λ (c : ℕ) (b : Bool). cond (t .present) (has c (t .right .0)) (not (has c (t .right .0))) && b)
-        (st .cell m p r _ _ (there p os fit (t .right) (t .row) (t .column) (k .cell) (k .oldRow) (k .oldColumn)))
+        (st .cell m p r _ _ (there s types ids p os fit (t .right) (t .row) (t .column) (k .cell) (k .oldRow) (k .oldColumn)))
         (tests-same m p r os fit ts each)
 
     -- k is the group of the operation before: once a thing was destroyed, only destroys follow
@@ -166,7 +170,7 @@ module _ {M : Type 0} (s : Head) (view : View M) (R : M → State → Type 0) (s
         → (p : State) → Fit types ids p (o ∷ os) → Cell s p (idAt ids (o .row)) (idAt ids (o .column)) × Fit types ids p os
     changed o os h b n p fit =
         let old : (q : ℕ) → isNew (o ∷ os) q ≡ false = no-creates s types o os h b in
-        (there p (o ∷ os) fit (o .right) (o .row) (o .column) n (old (o .row .0)) (old (o .column .0)), λ q l e. fit q l (old (q .0)))
+        (there s types ids p (o ∷ os) fit (o .right) (o .row) (o .column) n (old (o .row .0)) (old (o .column .0)), λ q l e. fit q l (old (q .0)))
 
     module _ (typed : (q : Parameter) → q .0 < length types → typeAt types q .0 < s .types)
         (given : (q : Parameter) → q .0 < length types → T (isId (idAt ids q))) where
@@ -204,10 +208,10 @@ module _ {M : Type 0} (s : Head) (view : View M) (R : M → State → Type 0) (s
           (operations-agree (group (o .code)) os b)
 
   carry-agree : (m : M) (p : State) → R m p → (ids : List ℕ) (c : Command) → Formed s c → Agree R (carryOut view m ids c) (carryOut papers p ids c)
-  unfolding carryOut
+  unfolding carryOut papers
   carry-agree m p r ids c form =
       unless-agree R _ _ _ _
-      (or-same _ _ _ _ refl λ long. or-same _ _ _ _ (places-same m p r os 0 types ids) λ ok.
+      (or-same _ _ _ _ refl λ long. or-same _ _ _ _ (places-same view papers m p (st .thing m p r) os os (λ q. refl) 0 types ids) λ ok.
       ap (λ (b : Bool). must b 14) (tests-same types ids m p r os (λ q h. placed-at p os types ids long ok q h .old) (testsOf c) (form .tests))) λ all.
       let at = placed-at p os types ids (search first-pass) (search (first-pass, then-pass)) in
       operations-agree types ids (form .typed) (λ q h. at q h .id) 0 os (form .body) m p (record { stand = r; fit = λ h q l. at q l .old })

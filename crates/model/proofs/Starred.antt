@@ -1,7 +1,7 @@
 -- The starred examples, computed.
 -- Assumes nothing.
 use Rattle.model.specs.Promises.{Starred}
-use Rattle.rights.specs.Sets.{has, single, enterRight, deleteRight, within}
+use Rattle.rights.specs.Sets.{has, single, enterRight, deleteRight}
 use Rattle.model.specs.Check.{_orElse_, must, passes, any, all, isSome}
 use Rattle.model.specs.Scheme.{isSubject, typeAt, idAt, creates, destroys, names, isNew}
 use Rattle.model.specs.Request.{isId, number, after, unlessFault, andThen, typeFault, placeFault, placesFault, holds, act, operate, operateAll, carryOut, carryOutIf, step, run, answers}

@@ -1,8 +1,8 @@
 -- What is accepted: a scheme whose fields pass the outline's checks (count 4, range 5, form 6), taken in field order, with zeros in all that is
 -- unused; and a matrix of it. Nothing else may be handed to an entry point (27). Assumes nothing.
-use Prim.Native.Nat.{ℕ, zero, suc, _^_, _/_, _%_}
+use Prim.Native.Nat.{ℕ, suc, _^_, _/_, _%_}
 use mathlib.Core.Bool.{Bool, true, false, not, cond, _&&_, _||_}
-use mathlib.Core.Option.{Option, none, some}
+use mathlib.Core.Option.{none}
 use mathlib.Core.List.{List, [], _∷_}
 use lib.Dec.{eqb, leb, ltb}
 use lib.ListN.{length, drop, getD}
@@ -16,7 +16,6 @@ use Rattle.model.specs.declared.Test.{Test}
 use Rattle.model.specs.declared.Code.{Code}
 use Rattle.model.specs.declared.Code.the-variants.{Enter, Delete, Create, Destroy}
 use Rattle.model.specs.declared.Operation.{Operation}
-use Rattle.model.specs.declared.Parameters.{Parameters}
 use Rattle.model.specs.declared.Command.{Command}
 use Rattle.model.specs.declared.Head.{Head}
 use Rattle.model.specs.declared.Scheme.{Scheme}

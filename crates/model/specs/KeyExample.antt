@@ -5,17 +5,11 @@ use mathlib.Core.Bool.{Bool, true, false, _&&_}
 use mathlib.Core.List.{List, [], _∷_}
 use lib.Dec.{eqb}
 use lib.ListN.{set, replicate}
-use Rattle.rights.specs.Sets.{converted}
-use Rattle.rights.specs.declared.ThingType.{ThingType}
 use Rattle.model.specs.Check.{all, isSome}
 use Rattle.model.specs.Request.{Request, View, run, answers}
-use Rattle.model.specs.Papers.{State, papers}
-use Rattle.model.specs.Seats.{Matrix, seats, standsFor, noType}
+use Rattle.model.specs.Seats.{Matrix, noType}
 use Rattle.model.specs.Arrays.{type, test, operation, command, scheme}
-use Rattle.model.specs.declared.Test.{Test}
-use Rattle.model.specs.declared.Code.{Code}
 use Rattle.model.specs.declared.Code.the-variants.{Enter, Destroy}
-use Rattle.model.specs.declared.Operation.{Operation}
 use Rattle.model.specs.declared.Command.{Command}
 use Rattle.model.specs.declared.Scheme.{Scheme}
 
@@ -61,18 +55,6 @@ ask c ids = record { command = c; ids = ids }
 
 abbrev pub is : ℕ → ℕ → ℕ → Cell
 is x y v = record { row = x; column = y; holds = v }
-
--- the seven starred requests of the key scheme, one after the other
-unfoldable pub seven : List Request
-seven =
-    ask 1 (9 ∷ 12 ∷ [])
-    ∷ ask 0 (5 ∷ 9 ∷ [])
-    ∷ ask 1 (9 ∷ 12 ∷ [])
-    ∷ ask 0 (9 ∷ 9 ∷ [])
-    ∷ ask 0 (5 ∷ 8 ∷ [])
-    ∷ ask 0 (5 ∷ [])
-    ∷ ask 2 []
-    ∷ []
 
 unfoldable pub sameNumbers : List ℕ → List ℕ → Bool
 sameNumbers [] [] = true

@@ -1,8 +1,8 @@
 -- The outline, "Carrying out one request": the checks 10 to 17 in their order, the operations, and a list of requests.
 -- All of it is said once, for any form that a matrix may have: a `View` tells how such a form is asked and changed.
 -- Assumes nothing.
-use Prim.Native.Nat.{ℕ, zero, suc}
-use mathlib.Core.Bool.{Bool, true, false, not, cond, _&&_}
+use Prim.Native.Nat.{ℕ, suc}
+use mathlib.Core.Bool.{Bool, not, cond, _&&_}
 use mathlib.Core.Option.{Option, none, some}
 use mathlib.Core.List.{List, [], _∷_}
 use lib.Dec.{eqb, leb}

@@ -38,7 +38,7 @@ fn put_line2(out: &mut [u8], at: usize, x: u64, y: u64) -> usize
     put_number(out, p, y, 10)
 }
 
-pub fn put_line3(out: &mut [u8], at: usize, x: u64, y: u64, z: u64) -> usize
+pub(crate) fn put_line3(out: &mut [u8], at: usize, x: u64, y: u64, z: u64) -> usize
     requires { ⌜ at ≤ 50000000 ⌝ }
     ensures { λ r. ⌜ Put (now (out .entry)) at (line (x ∷ y ∷ z ∷ [])) r (now (out .exit)) ⌝ }
 {
@@ -60,13 +60,13 @@ fn put_text(out: &mut [u8], at: usize, text: &[u8]) -> usize
     at + j
 }
 
-pub fn put_heading(out: &mut [u8]) -> usize
+pub(crate) fn put_heading(out: &mut [u8]) -> usize
     ensures { λ r. ⌜ Put (now (out .entry)) 0 heading r (now (out .exit)) ⌝ }
 {
     put_text(out, 0, b"request command result\n")
 }
 
-pub fn put_bad(out: &mut [u8], at: usize, position: usize, number: u8) -> usize
+pub(crate) fn put_bad(out: &mut [u8], at: usize, position: usize, number: u8) -> usize
     requires { ⌜ at ≤ 10000000 ⌝ }
     ensures { λ r. ⌜ Put (now (out .entry)) at (badLine position number) r (now (out .exit)) ⌝ }
 {
@@ -74,7 +74,7 @@ pub fn put_bad(out: &mut [u8], at: usize, position: usize, number: u8) -> usize
     put_line2(out, p, position as u64, number as u64)
 }
 
-pub fn put_end(out: &mut [u8], at: usize, totals: Totals) -> usize
+pub(crate) fn put_end(out: &mut [u8], at: usize, totals: Totals) -> usize
     requires { ⌜ at ≤ 10000000 ⌝ }
     ensures { λ r. ⌜ Put (now (out .entry)) at (endLine totals) r (now (out .exit)) ⌝ }
 {

@@ -122,7 +122,7 @@ field8-fault (got u t) k e = apart (cc)
 field8-fault (fault j) k e = let f : j ≡ k = cc in rw f
 
 -- what each took
-byte-was : (l : List ℕ) (v : ℕ) (t : List ℕ) → byte l ≡ got v t → l ≡ v ∷ t
+pub byte-was : (l : List ℕ) (v : ℕ) (t : List ℕ) → byte l ≡ got v t → l ≡ v ∷ t
 byte-was [] v t e = apart (cc)
 byte-was (x ∷ l) v t e = cc
 

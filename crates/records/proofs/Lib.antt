@@ -8,5 +8,5 @@ pub mod TripFields
 pub mod RecordAt
 pub mod TripRecord
 pub mod Loop
-pub mod TripExample
+pub mod Below
 pub mod Wrote

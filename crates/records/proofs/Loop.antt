@@ -49,9 +49,6 @@ module _ {I F A S : Type 0} {p : S → Reader I F A} {next : S → A → S} {n :
 
 -- ---- an array of m, filled from its start; f is how an item is stored
 module _ {A B : Type 0} (f : A → B) (z : B) (m : ℕ) where
-  pub fill-none : replicate m z ≡ map f [] ++ replicate (m - 0) z
-  fill-none = rw sub-zero
-
   pub fill-next : (items : List A) (a : A) {array : List B} (j : ℕ) → array ≡ map f items ++ replicate (m - j) z → length items ≡ j → j < m →
       set array j (f a) ≡ map f (items ++ a ∷ []) ++ replicate (m - (j + 1)) z
   fill-next items a j e l h =

@@ -6,7 +6,7 @@ use native.Mathlib.Nat.{zero-add, add-zero, add-assoc}
 use mathlib.Core.List.{List, [], _++_, append-nil, append-assoc}
 use mathlib.Core.Path.{_≡_, ap, _∙_}
 use lib.ListN.{length, take, drop, length-append, length-drop, take-append-drop, drop-of-length-le}
-use lib.Seq.{sets, sets-eq, take-all, take-at, drop-at, drop-drop, take-take, take-append-le, drop-append-add, length-take-le}
+use lib.Seq.{sets, sets-eq, take-all, take-at, drop-at, drop-drop, drop-append-add, length-take-le}
 use borrow.Author.Tests.{le-leb, lt-leb}
 use Rattle.records.specs.Bytes.{recordBytes}
 use Rattle.records.specs.Writing.{placed, writeBytes, writeRecord}
@@ -41,13 +41,7 @@ module _ (out : List ℕ) (at : ℕ) (vs : List ℕ) (fits : at + length vs ≤ 
   unfolding placed
   length-placed = simp (length-append, length-drop, before) (omega arith)
 
-  -- what stands before, behind and where they are placed
-  pub take-placed : (n : ℕ) → n ≤ at → take n (placed out at vs) ≡ take n out
-  unfolding placed
-  take-placed n h =
-      let l : n ≤ length (take at out) = omega (arith, before) in
-      rw append-assoc (take-append-le n (take at out) (vs ++ drop (at + length vs) out) l ∙ take-take n at out h)
-
+  -- what stands behind and where they are placed
   pub drop-placed : (n : ℕ) → at + length vs ≤ n → drop n (placed out at vs) ≡ drop n out
   unfolding placed
   drop-placed n h =

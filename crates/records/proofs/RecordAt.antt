@@ -18,7 +18,7 @@ use Rattle.records.proofs.BytesLaws.{length-record}
 use Rattle.records.proofs.FrontLaws.{Found, record-whole}
 use Rattle.records.proofs.Trip.{Bytes, Stand}
 
-pub is-true : (b : Bool) → T b → b ≡ true
+is-true : (b : Bool) → T b → b ≡ true
 is-true true t = refl
 is-true false t = absurd t
 

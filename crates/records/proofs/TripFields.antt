@@ -3,22 +3,19 @@ use Prim.Native.Nat.{ℕ, zero, suc, _+_, _*_, _/_, _%_, _^_, _<_, _≤_}
 use native.Mathlib.Omega.{arith}
 use native.Mathlib.Nat.{pow-succ'}
 use mathlib.Core.Bool.{_&&_}
-use mathlib.Core.List.{List, [], _∷_}
-use mathlib.Core.Path.{_≡_, refl}
+use mathlib.Core.List.{[], _∷_}
+use mathlib.Core.Path.{refl}
 use lib.Dec.{leb, ltb, leb→le, le→leb, ltb→lt, lt→ltb}
 use mir.Facts.{and-yes, yes-and}
 use Rattle.records.specs.Bytes.{littleEndian}
-use Rattle.records.specs.Reading.{got, byte, number, field}
-use Rattle.records.proofs.Trip.{Trip, body, never, trip-as, trip-done, trip-check, trip-then, trip-last}
-
-pub byte-got : (i : List ℕ) {v : ℕ} {j : List ℕ} → byte i ≡ got v j → i ≡ v ∷ j
-byte-got [] e = never e
-byte-got (x ∷ i) e = cc
+use Rattle.records.specs.Reading.{byte, number, field}
+use Rattle.records.proofs.FieldLaws.{byte-was}
+use Rattle.records.proofs.Trip.{Trip, body, trip-as, trip-done, trip-check, trip-then, trip-last}
 
 pub trip-byte : Trip body byte (λ v. v ∷ []) (λ v. v < 256)
 trip-byte = record {
   there = λ v o i j r. rw r;
-  back = λ i j v g e. let r = byte-got i e in (r, rw r at (g 0));
+  back = λ i j v g e. let r = byte-was i v j e in (r, rw r at (g 0));
 }
 
 pub trip-number : (w : ℕ) → Trip body (number w) (littleEndian w) (λ v. v < 256 ^ w)

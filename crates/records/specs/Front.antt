@@ -45,6 +45,11 @@ pub record Refusal : Type 0 where
   pub number : ℕ
   pub at : ℕ
 
+-- a record's refusal as that of what was to be read; it is asked of no record
+abbrev pub refusalOf : {A : Type 0} → RecordAnswer → Read ℕ Refusal A
+refusalOf (Record kind start len) = fault (record { number = 0; at = 0 })
+refusalOf (Refused number at) = fault (record { number = number; at = at })
+
 -- a record as one item of its input: its body is read, whole, by the reader for the kind that was found
 module _ {A : Type 0} where
   abbrev pub onBody : ℕ → ℕ → Read (List ℕ) ℕ A → Read ℕ Refusal A

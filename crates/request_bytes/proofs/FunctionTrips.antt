@@ -3,32 +3,29 @@
 use Prim.Native.Nat.{ℕ, _+_, _-_, _≤_}
 use native.Mathlib.Omega.{arith}
 use mathlib.Core.Bool.{Bool, true, false, cond}
-use mathlib.Core.List.{List, [], _∷_, _++_}
-use mathlib.Core.Path.{_≡_, refl, sym, ap, _∙_}
+use mathlib.Core.List.{List, _++_}
+use mathlib.Core.Path.{_≡_, sym, ap, _∙_}
 use lib.Dec.{leb, eqb, leb→le}
 use lib.ListN.{length, take, drop, replicate, length-append, length-take, length-drop, take-append-drop}
 use lib.Seq.{take-append-seam, take-at, take-take, length-take-le}
 use borrow.Author.Tests.{le-leb, ne-eqb}
 use Rattle.records.specs.Bytes.{part}
-use Rattle.records.specs.Reading.{Read, got, fault, byte, field, number, steps}
+use Rattle.records.specs.Reading.{Read, got, fault}
 use Rattle.records.specs.Front.{Refusal}
 use Rattle.records.specs.Writing.{placed, writeBytes}
-use Rattle.records.specs.declared.Writing.{Writing}
-use Rattle.records.specs.declared.Writing.the-variants as writing
 use Rattle.records.proofs.FieldLaws.{apart}
 use Rattle.records.proofs.PlacedLaws.{take-through-placed}
 use Rattle.records.proofs.Wrote.{Wrote, wrote}
-use Rattle.records.proofs.Trip.{Bytes, body, bind-got, got-value, trip-steps}
-use Rattle.records.proofs.TripFields.{trip-byte, trip-field, trip-number}
-use Rattle.records.proofs.TripRecord.{bytes-part, in-record-back}
+use Rattle.records.proofs.Trip.{read-write}
+use Rattle.records.proofs.TripRecord.{in-record-back}
 use Rattle.request_bytes.specs.FunctionTrips.{FunctionTrips}
-use Rattle.request_bytes.specs.Read.{idsOf, requestOf, request, requestAt, noRequest, asRequest, readRequest}
+use Rattle.request_bytes.specs.Read.{requestOf, request, requestAt, noRequest, asRequest, readRequest}
 use Rattle.request_bytes.specs.Write.{requestBytes, writeRequest}
 use Rattle.request_bytes.specs.declared.Request.{Request}
 use Rattle.request_bytes.specs.declared.RequestAnswer.{RequestAnswer}
 use Rattle.request_bytes.specs.declared.RequestReading.the-variants.{Done, End}
 use Rattle.request_bytes.proofs.Laws.{length-request}
-use Rattle.request_bytes.proofs.RoundTrips.{round-trips}
+use Rattle.request_bytes.proofs.RoundTrips.{record-trip, round-trips}
 
 -- ---- written, then read
 
@@ -60,20 +57,6 @@ read-got false (got p n) next q e =
     let c : n ≡ next = cc in rw (a, c)
 read-got false (fault f) next q e = let b = ap (λ (x : RequestAnswer). x .answer) e in apart (cc)
 
--- no more ids are read than the body may count
-few-ids : (b : List ℕ) (q : Request) → Bytes b → request b ≡ got q [] → length (idsOf q) ≤ 8
-unfolding request requestOf
-few-ids b q g e =
-    let (command, i, e1, f1) = bind-got (byte b) _ e in
-    let g1 = body .kept (command ∷ []) (trip-byte .back b i command g e1 .0) g in
-    let (count, j, e2, f2) = bind-got (field 0 9 4 i) _ f1 in
-    let (s2, few) = trip-field 0 9 4 .back i j count g1 e2 in
-    let g2 = body .kept (count ∷ []) s2 g1 in
-    let (ids, k, e3, f3) = bind-got (steps (λ (u : Unit {0}). number 2) (λ u x. u) count tt j) _ f2 in
-    let (s3, all) = trip-steps (λ u. trip-number 2) (λ (u : Unit {0}) x. u) count tt .back j k ids g2 e3 in
-    let n : q .count ≡ length ids = sym (ap (λ (x : Request). x .count) (got-value f3)) in
-    omega (arith, length-take (q .count) (q .ids), few .1, all .1, n)
-
 -- ---- both
 pub function-trips : FunctionTrips
 unfolding part requestOf requestAt readRequest writeRequest writeBytes
@@ -90,11 +73,11 @@ function-trips = record {
   read = λ bytes at next q g e.
       let r = read-got (eqb at (length bytes)) (requestAt bytes at) next q e in
       let (kind, start, len, f, d, n) = in-record-back bytes 64 (λ kind. request) at r in
-      let few = few-ids (part bytes start len) q (bytes-part bytes start len g) d in
+      let (fits, stood, same) = read-write record-trip bytes at next q g r in
       let size : length (take (next - at) (drop at bytes)) ≡ next - at =
       length-take-le (next - at) (drop at bytes) (omega (arith, length-drop at bytes, f .inside, f .behind)) in (
         omega (arith, f .behind),
         omega (arith, f .inside),
-        λ out to room. rw (le-leb _ _ few, ← (round-trips .back bytes at next q g r .0), size, le-leb _ _ room),
+        λ out to room. rw (le-leb _ _ (fits .1), ← stood, size, le-leb _ _ room),
       );
 }

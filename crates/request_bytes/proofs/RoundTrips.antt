@@ -14,7 +14,7 @@ use Rattle.request_bytes.specs.Write.{idBytes, requestBytes}
 use Rattle.request_bytes.specs.declared.Request.{Request}
 use Rattle.request_bytes.proofs.Laws.{ids-bytes, length-ids}
 
-abbrev Low : List ℕ → Type 0
+abbrev pub Low : List ℕ → Type 0
 Low ids = OkAll (λ (u : Unit {0}) x. u) (λ u x. x < 256 ^ 2) tt ids
 
 low : (ids : List ℕ) → ((i : ℕ) → getD ids i 0 < 65536) → Low ids
@@ -22,7 +22,7 @@ low [] h = tt
 low (x ∷ ids) h = (h 0, low ids (λ i. h (suc i)))
 
 -- what is read, and can be written: a byte, up to 8 ids of two bytes, and zeros behind them
-abbrev Fits : Request → Type 0
+abbrev pub Fits : Request → Type 0
 Fits q = (q .command < 256) × (length (idsOf q) ≤ 8) × Low (idsOf q) × (q ≡ requestOf (q .command) (idsOf q))
 
 ids-of : (command : ℕ) (ids : List ℕ) → idsOf (requestOf command ids) ≡ ids
@@ -48,7 +48,7 @@ body-trip =
     (λ q o. (o .0, omega arith, o .1 .1 .0 .0, o .1 .1 .1))
     (λ q o. (o .0, ((omega arith, omega arith, omega arith), ((o .2, refl), o .3))))
 
-record-trip : (s : List ℕ) → Trip (input s) (requestAt s) (λ q. requestBytes (q .command) (idsOf q)) Fits
+pub record-trip : (s : List ℕ) → Trip (input s) (requestAt s) (λ q. requestBytes (q .command) (idsOf q)) Fits
 unfolding requestAt requestBytes
 record-trip s = trip-kind s 6 (omega arith) body-trip (λ q o. omega (arith, length-ids (idsOf q)))
 

@@ -14,7 +14,7 @@ use Rattle.request_bytes.proofs.Laws.{no-count}
 
 -- ---- so many ids, of two bytes each
 
-abbrev idsIn : ℕ → List ℕ → Read (List ℕ) ℕ (List ℕ)
+abbrev pub idsIn : ℕ → List ℕ → Read (List ℕ) ℕ (List ℕ)
 idsIn n = steps (λ (u : Unit {0}). number 2) (λ u x. u) n tt
 
 ids-short : (n : ℕ) (l : List ℕ) → length l < 2 * n → idsIn n l ≡ fault 3

@@ -8,13 +8,10 @@ use lib.ListN.{length, take, replicate}
 use Rattle.records.specs.Reading.{Read, got, fault, Body, _>>=_, _>>_, done, steps, byte, field, number}
 use Rattle.records.specs.Front.{Refusal, inRecord}
 use Rattle.request_bytes.specs.declared.Request.{Request}
-use Rattle.request_bytes.specs.declared.RequestReading.{RequestReading}
 use Rattle.request_bytes.specs.declared.RequestReading.the-variants.{Done, End, Refused}
 use Rattle.request_bytes.specs.declared.RequestAnswer.{RequestAnswer}
 use Rattle.request_bytes.specs.declared.Walk.the-variants as walk
 use Rattle.request_bytes.specs.declared.IdsRead.{IdsRead}
-use Rattle.records.specs.declared.RecordAnswer.{RecordAnswer}
-use Rattle.records.specs.declared.RecordAnswer.the-variants as record-answer
 
 -- the ids that the array holds, and a request with these ids, with zeros behind them
 abbrev pub idsOf : Request → List ℕ
@@ -50,8 +47,3 @@ readRequest s at = cond (eqb at (length s)) (record { answer = End; request = no
 abbrev pub asIds : Read (List ℕ) ℕ (List ℕ) → IdsRead
 asIds (got ids rest) = record { answer = walk.Whole; ids = ids ++ replicate (8 - length ids) 0 }
 asIds (fault k) = record { answer = walk.Fault k; ids = replicate 8 0 }
-
--- a record's refusal as it is passed up; it is asked of no record
-abbrev pub refusalOf : RecordAnswer → Read ℕ Refusal Request
-refusalOf (record-answer.Record kind start len) = fault (record { number = 0; at = 0 })
-refusalOf (record-answer.Refused k q) = fault (record { number = k; at = q })

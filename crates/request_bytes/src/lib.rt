@@ -10,8 +10,8 @@ ghost use Prim.Native.Nat.{ℕ, _+_, _*_, _≤_, _<_};
 ghost use lib.ListN.{length, drop};
 ghost use lib.Seq.{sets};
 ghost use Rattle.records.specs.Reading.{fault, whole, steps, number, field, asField};
-ghost use Rattle.records.specs.Front.{onBody};
-ghost use Rattle.request_bytes.specs.Read.{request, asRequest, noRequest, readRequest, asIds, refusalOf};
+ghost use Rattle.records.specs.Front.{onBody, refusalOf};
+ghost use Rattle.request_bytes.specs.Read.{request, asRequest, noRequest, readRequest, asIds};
 ghost use Rattle.request_bytes.specs.Write.{idBytes, requestBytes, writeRequest};
 
 // A command number and up to 8 ids, with zeros behind them.

@@ -3,4 +3,3 @@ pub mod Digits
 pub mod Laws
 pub mod Converted
 pub mod Words
-pub mod Unique

@@ -1,6 +1,6 @@
 -- A set of rights is a number: right r is in it exactly if its binary digit r is 1. Rights are numbered from 0 to 63.
 -- A set of types is written the same way. Assumes nothing.
-use Prim.Native.Nat.{ℕ, zero, suc, _+_, _-_, _*_, _/_, _%_, _^_, min}
+use Prim.Native.Nat.{ℕ, zero, suc, _+_, _-_, _/_, _%_, _^_, min}
 use mathlib.Core.Bool.{Bool, cond}
 use lib.Dec.{eqb, ltb}
 

@@ -1,20 +1,37 @@
 -- What a function of the library leaves, from what the calls within it gave: the readings of a scheme and of a matrix, then what was made of them.
 -- Assumes nothing.
-use Prim.Native.Nat.{ℕ}
-use mathlib.Core.Path.{_≡_, ap, _∙_}
+use Prim.Native.Nat.{ℕ, _<_}
+use native.Mathlib.Omega.{arith}
+use mathlib.Core.Path.{_≡_, sym, ap, _∙_}
 use mathlib.Core.List.{List}
-use lib.ListN.{replicate}
+use lib.Dec.{T}
+use lib.ListN.{getD, replicate}
 use Rattle.model.specs.Seats.{Matrix}
+use Rattle.model.specs.Accepted.{acceptedScheme}
+use Rattle.model.specs.declared.Head.{Head}
 use Rattle.model.specs.declared.Scheme.{Scheme}
 use Rattle.model.specs.declared.Things.{Things}
 use Rattle.records.specs.declared.Reading.the-variants.{Done, Refused}
 use Rattle.records.specs.declared.Writing.{Writing}
+use Rattle.records.proofs.Wrote.{wrote as was-written}
 use Rattle.scheme_bytes.specs.Read.{noScheme}
+use Rattle.scheme_bytes.specs.Write.{schemeBytes, writeScheme}
 use Rattle.scheme_bytes.specs.Answers.{readScheme}
 use Rattle.scheme_bytes.specs.declared.answers.SchemeAnswer.{SchemeAnswer}
-use Rattle.matrix_bytes.specs.Answers.{readMatrix}
+use Rattle.scheme_bytes.proofs.FunctionTrips.{function-trips}
+use Rattle.matrix_bytes.specs.Answers.{readMatrix, readMatrixByHead}
 use Rattle.matrix_bytes.specs.declared.answers.MatrixAnswer.{MatrixAnswer}
+use Rattle.matrix_bytes.proofs.ReadLaws.{by-head}
 use Rattle.robot.specs.Library.{call, gives, givesWrote, givesRan, writingBy, wrote, noThings, afterScheme, withScheme, afterMatrix, withMatrix, notConverted, notRun}
+
+-- ---- a scheme that was read is accepted
+pub scheme-accepted : (bytes : List ℕ) → ((i : ℕ) → getD bytes i 0 < 256) → (r : SchemeAnswer) → r ≡ readScheme bytes noScheme →
+    (n : ℕ) → r .answer ≡ Done n → T (acceptedScheme (r .scheme))
+unfolding writeScheme
+scheme-accepted bytes small r is n e =
+    let whole : r ≡ record { answer = Done n; scheme = r .scheme } = λ i. record { answer = e i; scheme = r .scheme } in
+    let again = function-trips .read bytes noScheme (r .scheme) n small (sym is ∙ whole) .1 bytes (omega arith) in
+    was-written (acceptedScheme (r .scheme)) 27 bytes 0 (schemeBytes (r .scheme)) _ _ again .0
 
 -- ---- what follows a reading, seen through what is left of it
 module _ {A L : Type 0} (left : A → L) (refused : ℕ → ℕ → ℕ → A) where
@@ -29,13 +46,15 @@ module _ {A L : Type 0} (left : A → L) (refused : ℕ → ℕ → ℕ → A) w
     pub scheme-refused : {l : L} (k at : ℕ) → r .answer ≡ Refused k at → l ≡ left (refused k 1 at) → l ≡ left (withScheme refused bytes next)
     scheme-refused k at e f = f ∙ ap left (rw e at with-scheme)
 
-  module _ (next : Matrix → ℕ → A) (bytes : List ℕ) (s : Scheme) (things : Things) (none : things ≡ noThings) (r : MatrixAnswer) (cells : List ℕ)
-      (is : _≡_ {A = MatrixAnswer × List ℕ} (r, cells) (readMatrix bytes s things (replicate 2304 0))) where
+  module _ (next : Matrix → ℕ → A) (bytes : List ℕ) (s : Scheme) (ok : T (acceptedScheme s)) (h : Head) (its : s .head ≡ h)
+      (things : Things) (none : things ≡ noThings) (r : MatrixAnswer) (cells : List ℕ)
+      (is : _≡_ {A = MatrixAnswer × List ℕ} (r, cells) (readMatrixByHead bytes h things (replicate 2304 0))) where
     with-matrix : afterMatrix refused next (r, cells) (r .answer) ≡ withMatrix refused s bytes next
     unfolding withMatrix
     with-matrix =
-        ap (λ (x : MatrixAnswer × List ℕ). afterMatrix refused next x (x .0 .answer))
-        (is ∙ ap (λ (t : Things). readMatrix bytes s t (replicate 2304 0)) none)
+        let whole : _≡_ {A = MatrixAnswer × List ℕ} (r, cells) (readMatrix bytes s noThings (replicate 2304 0)) =
+        is ∙ rw (none, ← its) (sym (by-head bytes s noThings (replicate 2304 0) ok)) in
+        ap (λ (x : MatrixAnswer × List ℕ). afterMatrix refused next x (x .0 .answer)) whole
 
     pub matrix-read : {l : L} (n : ℕ) → r .answer ≡ Done n → l ≡ left (next (record { things = r .things; cells = cells }) n) →
         l ≡ left (withMatrix refused s bytes next)

@@ -1,7 +1,7 @@
 -- A run of a list of requests: what the functions within it gave, joined to what `runMatrix` says. The scheme and the matrix were read, so both are
 -- accepted, and so is the matrix afterwards: nothing is refused by 27.
 -- Assumes nothing.
-use Prim.Native.Nat.{ℕ, _+_, _≤_, _<_}
+use Prim.Native.Nat.{ℕ, _≤_, _<_}
 use native.Mathlib.Omega.{arith}
 use native.Mathlib.Nat.{zero-add}
 use mathlib.Core.Bool.{Bool, true, false, cond, _&&_}
@@ -11,14 +11,15 @@ use mathlib.Core.Path.{_≡_, refl, sym, ap, _∙_}
 use denote.Enum.Declared.{tagOf}
 use types.Run.{OneOf}
 use lib.Dec.{T, leb}
-use lib.ListN.{length, getD, replicate}
-use borrow.Author.Tests.{le-leb, lt-leb, leb-true}
+use lib.ListN.{length, getD}
+use borrow.Author.Tests.{le-leb, lt-leb}
 use Rattle.model.specs.Request.{Request, after, step, run, answers}
 use Rattle.model.specs.Seats.{Matrix, seats}
-use Rattle.model.specs.Accepted.{acceptedScheme, acceptedMatrix}
+use Rattle.model.specs.Check.{passes}
+use Rattle.model.specs.Accepted.{headFault, acceptedScheme, acceptedMatrix}
 use Rattle.model.specs.declared.Scheme.{Scheme}
 use Rattle.model.specs.declared.Things.{Things}
-use Rattle.model.proofs.Bools.{is-true, and-left, and-right}
+use Rattle.model.proofs.Bools.{is-true, and-right}
 use Rattle.model.proofs.Joined.{kept}
 use Rattle.records.specs.Writing.{placed, writeBytes}
 use Rattle.records.specs.declared.Reading.{Reading}
@@ -27,33 +28,36 @@ use Rattle.records.specs.declared.Writing.{Writing}
 use Rattle.records.specs.declared.Writing.the-variants as writing
 use Rattle.records.proofs.FieldLaws.{apart}
 use Rattle.records.proofs.Wrote.{pair-eq, wrote}
-use Rattle.matrix_bytes.specs.Answers.{readMatrix}
-use Rattle.matrix_bytes.specs.Write.{matrixBytes, writeMatrix}
+use Rattle.matrix_bytes.specs.Answers.{readMatrix, readMatrixByHead}
+use Rattle.matrix_bytes.specs.Write.{matrixBytes, writeMatrix, writeMatrixByHead}
 use Rattle.matrix_bytes.specs.declared.answers.MatrixAnswer.{MatrixAnswer}
+use Rattle.matrix_bytes.proofs.RoundTrips.{head-passes}
+use Rattle.matrix_bytes.proofs.ReadLaws.{by-head}
 use Rattle.matrix_bytes.proofs.FunctionTrips.{function-trips}
 use Rattle.engine.specs.List.{Listed, listOf, runAnswer, Result, refusedRun, runOn, runQuietly}
 use Rattle.engine.specs.declared.answers.Ran.{Ran as Run}
 use Rattle.engine.specs.declared.answers.RunAnswer.{RunAnswer}
-use Rattle.engine.specs.declared.answers.RunAnswer.the-variants.{Whole, Bad, Refused}
+use Rattle.engine.specs.declared.answers.RunAnswer.the-variants.{Refused}
 use Rattle.engine.proofs.answers.RunAnswer.{the-type}
-use Rattle.robot.specs.Library.{call, gives, givesRan, countOf, nextOf, endedBy, endingBy, neededBy, bytesAfter, runMatrix}
+use Rattle.robot.specs.Library.{call, gives, givesRan, bytesAfter, endedBy, runMatrix}
+use Rattle.robot.specs.Parts.{countOf, nextOf, endingBy, neededBy}
 use Rattle.robot.specs.declared.run.Needed.{Needed}
 use Rattle.robot.proofs.CallLaws.{not-run}
 use Rattle.robot.proofs.SizeLaws.{largest}
 
 -- ---- what was read is accepted, and stays so
-pub read-accepted : (bytes : List ℕ) (s : Scheme) (things : Things) (cells new : List ℕ) (r : MatrixAnswer) (n : ℕ) → ((i : ℕ) → getD bytes i 0 < 256) →
-    _≡_ {A = MatrixAnswer × List ℕ} (r, new) (readMatrix bytes s things cells) → r .answer ≡ reading.Done n →
-    T (acceptedScheme s) × T (acceptedMatrix (s .head) (record { things = r .things; cells = new }))
+pub read-accepted : (bytes : List ℕ) (s : Scheme) → T (acceptedScheme s) → (things : Things) (cells new : List ℕ) (r : MatrixAnswer) (n : ℕ) →
+    ((i : ℕ) → getD bytes i 0 < 256) → _≡_ {A = MatrixAnswer × List ℕ} (r, new) (readMatrixByHead bytes (s .head) things cells) →
+    r .answer ≡ reading.Done n → T (acceptedMatrix (s .head) (record { things = r .things; cells = new }))
 unfolding writeMatrix
-read-accepted bytes s things cells new r n small is e =
+read-accepted bytes s ok things cells new r n small is e =
     let m : Matrix = record { things = r .things; cells = new } in
     let whole : r ≡ record { answer = reading.Done n; things = r .things } = λ i. record { answer = e i; things = r .things } in
     let got : _≡_ {A = MatrixAnswer × List ℕ} (readMatrix bytes s things cells) (record { answer = reading.Done n; things = r .things }, new) =
-    sym is ∙ ap (λ (x : MatrixAnswer). (x, new)) whole in
+    by-head bytes s things cells ok ∙ sym is ∙ ap (λ (x : MatrixAnswer). (x, new)) whole in
     let (end, again) = function-trips .read bytes s things cells n (r .things) new small got in
     let (t, w) = wrote (acceptedScheme s && acceptedMatrix (s .head) m) 27 bytes 0 (matrixBytes (s .head) m) _ _ (again bytes (omega arith)) in
-    (and-left (acceptedScheme s) _ t, and-right (acceptedScheme s) _ t)
+    and-right (acceptedScheme s) _ t
 
 module _ (s : Scheme) (ok : T (acceptedScheme s)) where
   all-kept : (m : Matrix) (qs : List Request) → T (acceptedMatrix (s .head) m) → T (acceptedMatrix (s .head) (run seats s m qs))
@@ -75,13 +79,19 @@ module _ (s : Scheme) (ok : T (acceptedScheme s)) where
     -- where there is room, the matrix afterwards is written
     module _ (out : List ℕ) (room : length (bytesAfter s m l) ≤ length out) where
       pub written-after : (things : Things) (cells : List ℕ) → things ≡ end .things → cells ≡ end .cells → (w : Writing) (out′ : List ℕ) →
-          _≡_ {A = Writing × List ℕ} (w, out′) (writeMatrix out s (record { things = things; cells = cells })) →
+          _≡_ {A = Writing × List ℕ} (w, out′) (writeMatrixByHead out (s .head) (record { things = things; cells = cells })) →
           (nextOf w ≡ length bytes) × (out′ ≡ placed out 0 bytes)
-      unfolding writeMatrix writeBytes bytesAfter
+      unfolding writeMatrixByHead writeBytes bytesAfter
       written-after things cells et ec w out′ e =
           let same : _≡_ {A = Matrix} (record { things = things; cells = cells }) end = λ i. record { things = et i; cells = ec i } in
           let f : _≡_ {A = Writing × List ℕ} (w, out′) (writing.Done (length bytes), placed out 0 bytes) =
-          e ∙ rw (same, is-true (acceptedScheme s) ok, is-true (acceptedMatrix (s .head) end) (all-kept m (l .requests) of), zero-add, le-leb _ _ room) in
+          e ∙ rw (
+            same,
+            is-true (passes (headFault (s .head))) (head-passes s ok),
+            is-true (acceptedMatrix (s .head) end) (all-kept m (l .requests) of),
+            zero-add,
+            le-leb _ _ room,
+          ) in
           let (a, b) = pair-eq f in (ap nextOf a, b)
 
 -- ---- a list that was run: refused by 9 as a whole, or carried out to its end
@@ -138,7 +148,7 @@ module _ (s : Scheme) (ok : T (acceptedScheme s)) (m : Matrix) (of : T (accepted
         rw (b, same) (ap (λ (q : ℕ × List ℕ). (q .0, results, out, q .1)) (told ∙ rw (e, x9)))
 
     pub run-long : RunsOn (r .answer) → length (bytesAfter s m l) ≤ length out → (w : Writing) (out′ : List ℕ) →
-        _≡_ {A = Writing × List ℕ} (w, out′) (writeMatrix out s (record { things = r .things; cells = cells })) → (written : ℕ) → written ≡ nextOf w →
+        _≡_ {A = Writing × List ℕ} (w, out′) (writeMatrixByHead out (s .head) (record { things = r .things; cells = cells })) → (written : ℕ) → written ≡ nextOf w →
         _≡_ {A = ℕ × List ℕ} (n, report′) (gives report (endingBy written (r .answer))) →
         _≡_ {A = ℕ × List ℕ × List ℕ × List ℕ} (n, numbers, out′, report′) (givesRan report (runMatrix s m l results out))
     unfolding runMatrix
@@ -167,7 +177,7 @@ module _ (s : Scheme) (ok : T (acceptedScheme s)) (m : Matrix) (of : T (accepted
   quietly = is ∙ rw (is-true (acceptedScheme s) ok, is-true (acceptedMatrix (s .head) m) of)
 
   pub trial-tells : (count : ℕ) → count ≡ countOf (r .answer) → (out : List ℕ) → 37206 ≤ length out → (w : Writing) (out′ : List ℕ) →
-      _≡_ {A = Writing × List ℕ} (w, out′) (writeMatrix out s (record { things = r .things; cells = cells })) → (written : ℕ) → written ≡ nextOf w →
+      _≡_ {A = Writing × List ℕ} (w, out′) (writeMatrixByHead out (s .head) (record { things = r .things; cells = cells })) → (written : ℕ) → written ≡ nextOf w →
       _≡_ {A = Needed} (record { answers = count; bytes = written }) (neededBy s m (listOf requests))
   unfolding neededBy
   trial-tells count ec out room w out′ e written ew =

@@ -1,12 +1,11 @@
 -- An accepted matrix's bytes are at most 37,206: 6 of the head, 7 for each of at most 48 things, 16 for each of at most 48 times 48 cells.
 -- Assumes nothing.
-use Prim.Native.Nat.{ℕ, suc, _*_, _≤_}
+use Prim.Native.Nat.{ℕ, _*_, _≤_}
 use native.Mathlib.Omega.{arith}
 use mathlib.Core.Bool.{Bool, true, false, cond}
 use mathlib.Core.List.{List, [], _∷_, _++_}
-use lib.Dec.{T, eqb, ltb}
+use lib.Dec.{T, eqb}
 use lib.ListN.{length, length-append}
-use Rattle.rights.specs.declared.ThingType.{ThingType}
 use Rattle.model.specs.Scheme.{isSubject}
 use Rattle.model.specs.Seats.{Matrix, cell}
 use Rattle.model.specs.Accepted.{acceptedMatrix}
@@ -14,27 +13,14 @@ use Rattle.model.specs.declared.Head.{Head}
 use Rattle.model.proofs.HeldLaws.{held}
 use Rattle.records.specs.Bytes.{recordBytes}
 use Rattle.records.proofs.BytesLaws.{length-record}
-use Rattle.matrix_bytes.specs.Content.{Thing, Cell, insert, rising, thingsOf, rowOf, rowsOf, cellsOf}
+use Rattle.matrix_bytes.specs.Content.{Thing, Cell, thingsOf, rowOf, rowsOf, cellsOf}
 use Rattle.matrix_bytes.specs.Write.{thingRecords, cellRecords, matrixBytes}
-use Rattle.matrix_bytes.proofs.WriteLaws.{length-things, length-cells}
+use Rattle.matrix_bytes.proofs.Rising.{rising-length}
+use Rattle.matrix_write.proofs.WriteLaws.{length-things, length-cells}
 
 either : {A : Type 0} (b : Bool) (xs ys : List A) (n : ℕ) → length xs ≤ n → length ys ≤ n → length (cond b xs ys) ≤ n
 either true xs ys n p q = p
 either false xs ys n p q = q
-
--- ---- things
-one-more : (t : Thing) (us : List Thing) → length (insert t us) ≤ suc (length us)
-unfolding insert
-one-more t [] = omega arith
-one-more t (u ∷ us) = either (ltb (t .id) (u .id)) _ _ _ (omega arith) (omega (arith, one-more t us))
-
-few-things : (ids : List ℕ) (types : List ThingType) → length (rising ids types) ≤ length ids
-unfolding rising
-few-things [] types = omega arith
-few-things (x ∷ xs) [] = omega arith
-few-things (x ∷ xs) (t ∷ ts) =
-    let n = few-things xs ts in
-    either (eqb x 0) _ _ _ (omega arith) (omega (arith, one-more (record { id = x; type = t }) (rising xs ts)))
 
 -- ---- cells
 module _ (m : Matrix) where
@@ -58,7 +44,7 @@ largest h m of =
     let ts : List Thing = thingsOf m in
     let cs : List Cell = cellsOf h m in
     let front : List ℕ = recordBytes 3 (h .rights ∷ length ts ∷ []) in
-    let n : length ts ≤ 48 = omega (arith, few-things (m .things .ids) (m .things .types), held h m of .things .idRoom) in
+    let n : length ts ≤ 48 = omega (arith, rising-length (m .things .ids) (m .things .types), held h m of .things .idRoom) in
     omega (
       arith,
       length-append (front ++ thingRecords ts) (cellRecords cs),

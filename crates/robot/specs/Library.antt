@@ -22,12 +22,9 @@ use Rattle.matrix_bytes.specs.Write.{matrixBytes}
 use Rattle.matrix_bytes.specs.declared.answers.MatrixAnswer.{MatrixAnswer}
 use Rattle.request_bytes.specs.Write.{writeRequest}
 use Rattle.engine.specs.List.{Listed, listOf}
-use Rattle.engine.specs.declared.answers.RunAnswer.{RunAnswer}
-use Rattle.engine.specs.declared.answers.RunAnswer.the-variants as ended
-use Rattle.robot.specs.declared.run.Needed.{Needed}
 use Rattle.convert.specs.Convert.{convertSchemeInto, convertMatrixInto}
 
--- ---- what is given back
+-- ---- what every function gives
 
 -- the number, and the four numbers of the report
 pub record Called : Type 0 where
@@ -38,39 +35,16 @@ pub record Called : Type 0 where
 abbrev pub call : ℕ → ℕ → ℕ → ℕ → ℕ → Called
 call number where′ at count written = record { number = number; report = where′ ∷ at ∷ count ∷ written ∷ [] }
 
--- the same with what a lent buffer then holds, and with two of them
-pub record Wrote : Type 0 where
-  pub called : Called
-  pub out : List ℕ
-
-pub record Ran : Type 0 where
-  pub called : Called
-  pub answers : List ℕ
-  pub out : List ℕ
-
 -- what a report holds afterwards: the first four of its numbers are put, as far as there is room
 unfoldable pub reported : List ℕ → Called → List ℕ
 reported report c = sets report 0 (c .report)
 
--- what a function leaves behind with a report: its number, what the buffers hold, and what the report holds
+-- what a call with such a report leaves: its number, and what the report then holds
 abbrev pub gives : List ℕ → Called → ℕ × List ℕ
 gives report c = (c .number, reported report c)
 
-abbrev pub givesWrote : List ℕ → Wrote → ℕ × List ℕ × List ℕ
-givesWrote report w = (w .called .number, w .out, reported report (w .called))
-
-abbrev pub givesRan : List ℕ → Ran → ℕ × List ℕ × List ℕ × List ℕ
-givesRan report r = (r .called .number, r .answers, r .out, reported report (r .called))
-
--- a writing: 9 lies in the output, any other number in what the caller says
-abbrev pub writingBy : ℕ → Writing → Called
-writingBy other (writing.Done next) = call 0 0 0 0 next
-writingBy other (writing.Refused k) = call k (cond (eqb k 9) 5 other) 0 0 0
-
-abbrev pub wrote : ℕ → Writing × List ℕ → Wrote
-wrote other w = record { called = writingBy other (w .0); out = w .1 }
-
--- ---- what is read first: a scheme, and a matrix of it, from bytes
+-- ---- what is read first: a scheme, and a matrix of it, from bytes. `refused` makes an answer of a number, where the fault lies and its position;
+-- `next` makes one of what was read and its length
 abbrev pub noThings : Things
 noThings = record { ids = replicate 48 0; types = replicate 48 noType }
 
@@ -102,20 +76,18 @@ checkAgainst matrix s = withMatrix notRead s matrix (λ m k. call 0 0 k 0 0)
 unfoldable pub checkMatrix : List ℕ → List ℕ → Called
 checkMatrix scheme matrix = withScheme notRead scheme (λ s n. checkAgainst matrix s)
 
--- ---- converting: 20 to 22 lie in the scheme, 9 in the output
-abbrev pub notConverted : List ℕ → ℕ → ℕ → ℕ → Wrote
-notConverted out k where′ at = record { called = notRead k where′ at; out = out }
-
-unfoldable pub convertSchemeBytes : List ℕ → List ℕ → Wrote
-convertSchemeBytes scheme out = withScheme (notConverted out) scheme (λ s n. wrote 1 (convertSchemeInto out s))
-
-unfoldable pub convertAgainst : List ℕ → List ℕ → Scheme → Wrote
-convertAgainst matrix out s = withMatrix (notConverted out) s matrix (λ m k. wrote 1 (convertMatrixInto out s m))
-
-unfoldable pub convertMatrixBytes : List ℕ → List ℕ → List ℕ → Wrote
-convertMatrixBytes scheme matrix out = withScheme (notConverted out) scheme (λ s n. convertAgainst matrix out s)
-
 -- ---- running a list of requests: the answers, and the bytes of the matrix afterwards
+
+-- with what the two lent buffers then hold
+pub record Ran : Type 0 where
+  pub called : Called
+  pub answers : List ℕ
+  pub out : List ℕ
+
+abbrev pub givesRan : List ℕ → Ran → ℕ × List ℕ × List ℕ × List ℕ
+givesRan report r = (r .called .number, r .answers, r .out, reported report (r .called))
+
+-- refused: nothing is stored
 abbrev pub notRun : List ℕ → List ℕ → ℕ → ℕ → ℕ → Ran
 notRun results out k where′ at = record { called = notRead k where′ at; answers = results; out = out }
 
@@ -148,28 +120,37 @@ runAgainst matrix requests results out s = withMatrix (notRun results out) s mat
 unfoldable pub runBytes : List ℕ → List ℕ → List ℕ → List ℕ → List ℕ → Ran
 runBytes scheme matrix requests results out = withScheme (notRun results out) scheme (λ s n. runAgainst matrix requests results out s)
 
+-- ---- converting: 20 to 22 lie in the scheme, 9 in the output
+
+-- with what the lent buffer then holds
+pub record Wrote : Type 0 where
+  pub called : Called
+  pub out : List ℕ
+
+abbrev pub givesWrote : List ℕ → Wrote → ℕ × List ℕ × List ℕ
+givesWrote report w = (w .called .number, w .out, reported report (w .called))
+
+-- a writing: 9 lies in the output, any other number in what the caller says
+abbrev pub writingBy : ℕ → Writing → Called
+writingBy other (writing.Done next) = call 0 0 0 0 next
+writingBy other (writing.Refused k) = call k (cond (eqb k 9) 5 other) 0 0 0
+
+abbrev pub wrote : ℕ → Writing × List ℕ → Wrote
+wrote other w = record { called = writingBy other (w .0); out = w .1 }
+
+-- refused: nothing is stored
+abbrev pub notConverted : List ℕ → ℕ → ℕ → ℕ → Wrote
+notConverted out k where′ at = record { called = notRead k where′ at; out = out }
+
+unfoldable pub convertSchemeBytes : List ℕ → List ℕ → Wrote
+convertSchemeBytes scheme out = withScheme (notConverted out) scheme (λ s n. wrote 1 (convertSchemeInto out s))
+
+unfoldable pub convertAgainst : List ℕ → List ℕ → Scheme → Wrote
+convertAgainst matrix out s = withMatrix (notConverted out) s matrix (λ m k. wrote 1 (convertMatrixInto out s m))
+
+unfoldable pub convertMatrixBytes : List ℕ → List ℕ → List ℕ → Wrote
+convertMatrixBytes scheme matrix out = withScheme (notConverted out) scheme (λ s n. convertAgainst matrix out s)
+
 -- ---- writing a request behind others: 4 above 8 ids, then 9; what is written is the position behind it
 unfoldable pub requestBytes : List ℕ → ℕ → ℕ → List ℕ → Wrote
 requestBytes out at command ids = wrote 3 (writeRequest out at command ids)
-
--- ---- the answers of the inner functions
-
--- how many bytes were written
-abbrev pub nextOf : Writing → ℕ
-nextOf (writing.Done next) = next
-nextOf (writing.Refused k) = 0
-
--- how many answers a list was given, and what is told of it with so many bytes written
-abbrev pub countOf : RunAnswer → ℕ
-countOf (ended.Whole count) = count
-countOf (ended.Bad count k at) = count
-countOf (ended.Refused k) = 0
-
-abbrev pub endingBy : ℕ → RunAnswer → Called
-endingBy written (ended.Whole count) = call 0 0 0 count written
-endingBy written (ended.Bad count k at) = call k 3 at count written
-endingBy written (ended.Refused k) = call k 4 0 0 0
-
--- what a run will take of the two buffers
-unfoldable pub neededBy : Scheme → Matrix → Listed → Needed
-neededBy s m l = record { answers = length (l .requests); bytes = length (bytesAfter s m l) }

@@ -1,6 +1,6 @@
 // Whether bytes read as a scheme, or as a matrix of one.
 use crate::report::tell;
-use model::Scheme;
+use model::Head;
 use model::Things;
 use records::Reading;
 use rights::ThingType;
@@ -8,12 +8,15 @@ use scheme_bytes::SchemeAnswer;
 ghost use mathlib.Core.Path.{_≡_};
 ghost use mathlib.Core.List.{List};
 ghost use Prim.Native.Nat.{ℕ};
+ghost use lib.Dec.{T};
+ghost use Rattle.model.specs.Accepted.{acceptedScheme};
+ghost use Rattle.model.specs.declared.Scheme.{Scheme};
 ghost use Rattle.scheme_bytes.specs.Answers.{readScheme};
 ghost use Rattle.scheme_bytes.specs.Read.{noScheme};
 ghost use Rattle.robot.specs.Library.{noThings, gives, checkScheme, checkAgainst, checkMatrix};
 
 // A scheme read from bytes; it is told apart from none by the answer beside it.
-pub fn scheme_of(scheme: &[u8]) -> SchemeAnswer
+pub(crate) fn scheme_of(scheme: &[u8]) -> SchemeAnswer
     ensures { λ r. ⌜ r ≡ readScheme (now (scheme .entry)) noScheme ⌝ }
 {
     scheme_bytes::read_scheme(scheme, scheme_bytes::no_scheme())
@@ -32,7 +35,7 @@ pub extern "C" fn slushferret_check_scheme(scheme: &[u8], report: &mut [usize]) 
 }
 
 // Things to read into: none.
-pub fn no_things() -> Things
+pub(crate) fn no_things() -> Things
     ensures { λ r. ⌜ r ≡ noThings ⌝ }
 {
     Things {
@@ -41,11 +44,12 @@ pub fn no_things() -> Things
     }
 }
 
-fn check_of(s: Scheme, matrix: &[u8], report: &mut [usize]) -> u8
-    ensures { λ r. ⌜ _≡_ {A = ℕ × List ℕ} (r, now (report .exit)) (gives (now (report .entry)) (checkAgainst (now (matrix .entry)) s)) ⌝ }
+// The head is that of a scheme that was read, so it is enough.
+fn check_of(h: Head, matrix: &[u8], report: &mut [usize]) -> u8
+    ensures { λ r. ⌜ ((s : Scheme) → T (acceptedScheme s) → s .head ≡ h → _≡_ {A = ℕ × List ℕ} (r, now (report .exit)) (gives (now (report .entry)) (checkAgainst (now (matrix .entry)) s))) ⌝ }
 {
     let mut cells = [0u64; 2304];
-    let read = matrix_bytes::read_matrix(matrix, s, no_things(), &mut cells);
+    let read = matrix_bytes::read_matrix_by_head(matrix, h, no_things(), &mut cells);
     let answer = read.answer;
     match answer {
         Reading::Done { next } => tell(report, 0, 0, next, 0, 0),
@@ -60,8 +64,9 @@ pub extern "C" fn slushferret_check_matrix(scheme: &[u8], matrix: &[u8], report:
     let read = scheme_of(scheme);
     let answer = read.answer;
     let s = read.scheme;
+    let h = s.head;
     match answer {
-        Reading::Done { next: _ } => check_of(s, matrix, report),
+        Reading::Done { next: _ } => check_of(h, matrix, report),
         Reading::Refused { number, at } => tell(report, number, 1, at, 0, 0),
     }
 }

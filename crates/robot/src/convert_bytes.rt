@@ -8,6 +8,8 @@ use records::Reading;
 ghost use mathlib.Core.Path.{_≡_};
 ghost use mathlib.Core.List.{List};
 ghost use Prim.Native.Nat.{ℕ};
+ghost use lib.Dec.{T};
+ghost use Rattle.model.specs.Accepted.{acceptedScheme};
 ghost use Rattle.robot.specs.Library.{givesWrote, convertSchemeBytes, convertAgainst, convertMatrixBytes};
 
 #[no_mangle]
@@ -31,10 +33,12 @@ pub extern "C" fn slushferret_convert_scheme(
 }
 
 fn convert_of(s: Scheme, matrix: &[u8], out: &mut [u8], report: &mut [usize]) -> u8
+    requires { ⌜ T (acceptedScheme s) ⌝ }
     ensures { λ r. ⌜ _≡_ {A = ℕ × List ℕ × List ℕ} (r, now (out .exit), now (report .exit)) (givesWrote (now (report .entry)) (convertAgainst (now (matrix .entry)) (now (out .entry)) s)) ⌝ }
 {
+    let h = s.head;
     let mut cells = [0u64; 2304];
-    let read = matrix_bytes::read_matrix(matrix, s, no_things(), &mut cells);
+    let read = matrix_bytes::read_matrix_by_head(matrix, h, no_things(), &mut cells);
     let answer = read.answer;
     let things = read.things;
     match answer {

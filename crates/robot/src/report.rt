@@ -6,7 +6,7 @@ ghost use mathlib.Core.List.{List};
 ghost use Prim.Native.Nat.{ℕ};
 ghost use lib.Dec.{eqb};
 ghost use lib.ListN.{set};
-ghost use Rattle.robot.specs.Library.{call, reported, gives, writingBy};
+ghost use Rattle.robot.specs.Library.{call, gives, writingBy};
 
 fn put(report: &mut [usize], i: usize, v: usize)
     ensures { λ _. ⌜ now (report .exit) ≡ set (now (report .entry)) i v ⌝ }
@@ -18,7 +18,7 @@ fn put(report: &mut [usize], i: usize, v: usize)
 
 // Where the fault lies (1 the scheme, 2 the matrix, 3 the list, 4 the answers' buffer, 5 the output), its position, how many answers were stored, how
 // many bytes were written.
-pub fn tell(
+pub(crate) fn tell(
     report: &mut [usize],
     number: u8,
     fault: usize,
@@ -42,7 +42,7 @@ fn place_of(number: u8, other: usize) -> usize
 }
 
 // What was written: 9 lies in the output, any other number in what the caller says.
-pub fn tell_writing(report: &mut [usize], other: usize, answer: Writing) -> u8
+pub(crate) fn tell_writing(report: &mut [usize], other: usize, answer: Writing) -> u8
     ensures { λ r. ⌜ _≡_ {A = ℕ × List ℕ} (r, now (report .exit)) (gives (now (report .entry)) (writingBy other answer)) ⌝ }
 {
     match answer {

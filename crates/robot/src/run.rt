@@ -15,7 +15,8 @@ ghost use lib.Dec.{T};
 ghost use lib.ListN.{length};
 ghost use Rattle.model.specs.Accepted.{acceptedScheme, acceptedMatrix};
 ghost use Rattle.engine.specs.List.{listOf};
-ghost use Rattle.robot.specs.Library.{gives, givesWrote, givesRan, countOf, nextOf, endingBy, neededBy, bytesAfter, runMatrix, runAgainst, runBytes, requestBytes};
+ghost use Rattle.robot.specs.Library.{gives, givesWrote, givesRan, bytesAfter, runMatrix, runAgainst, runBytes, requestBytes};
+ghost use Rattle.robot.specs.Parts.{countOf, nextOf, endingBy, neededBy};
 
 // Every matrix's bytes fit into so many.
 const LARGEST: usize = 37206;
@@ -67,13 +68,14 @@ fn trial_of(s: Scheme, th: Things, cells: [u64; 2304], requests: &[u8]) -> Neede
     requires { ⌜ T (acceptedScheme s) × T (acceptedMatrix (s .head) (record { things = th; cells = cells })) ⌝ }
     ensures { λ r. ⌜ r ≡ neededBy s (record { things = th; cells = cells }) (listOf (now (requests .entry))) ⌝ }
 {
+    let h = s.head;
     let mut trial = cells;
     let ran = engine::run_quietly(s, th, &mut trial, requests);
     let answer = ran.answer;
     let answers = count_of(answer);
     let things = ran.things;
     let mut scratch = [0u8; 37206];
-    let bytes = next_of(matrix_bytes::write_matrix(&mut scratch, s, things, &trial));
+    let bytes = next_of(matrix_write::write_matrix_by_head(&mut scratch, h, things, &trial));
     Needed { answers, bytes }
 }
 
@@ -90,13 +92,14 @@ fn run_on(
     requires { ⌜ T (acceptedScheme s) × T (acceptedMatrix (s .head) (record { things = th; cells = now cells })) × (length (bytesAfter s (record { things = th; cells = now cells }) (listOf (now requests))) ≤ length (now out)) ⌝ }
     ensures { λ r. ⌜ _≡_ {A = ℕ × List ℕ × List ℕ × List ℕ} (r, now (answers .exit), now (out .exit), now (report .exit)) (givesRan (now (report .entry)) (runMatrix s (record { things = th; cells = now (cells .entry) }) (listOf (now (requests .entry))) (now (answers .entry)) (now (out .entry)))) ⌝ }
 {
+    let h = s.head;
     let ran = engine::run_list(s, th, cells, requests, answers);
     let answer = ran.answer;
     let things = ran.things;
     if let RunAnswer::Refused(_) = answer {
         return tell_ended(report, answer, 0);
     }
-    let written = next_of(matrix_bytes::write_matrix(out, s, things, cells));
+    let written = next_of(matrix_write::write_matrix_by_head(out, h, things, cells));
     tell_ended(report, answer, written)
 }
 
@@ -109,10 +112,12 @@ fn run_of(
     out: &mut [u8],
     report: &mut [usize],
 ) -> u8
+    requires { ⌜ T (acceptedScheme s) ⌝ }
     ensures { λ r. ⌜ _≡_ {A = ℕ × List ℕ × List ℕ × List ℕ} (r, now (answers .exit), now (out .exit), now (report .exit)) (givesRan (now (report .entry)) (runAgainst (now (matrix .entry)) (now (requests .entry)) (now (answers .entry)) (now (out .entry)) s)) ⌝ }
 {
+    let h = s.head;
     let mut cells = [0u64; 2304];
-    let read = matrix_bytes::read_matrix(matrix, s, no_things(), &mut cells);
+    let read = matrix_bytes::read_matrix_by_head(matrix, h, no_things(), &mut cells);
     let answer = read.answer;
     let things = read.things;
     if let Reading::Refused { number, at } = answer {

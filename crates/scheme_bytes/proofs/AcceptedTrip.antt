@@ -1,6 +1,6 @@
 -- A scheme is accepted exactly if some bytes read as it. What this adds to the round trips: an accepted scheme's bytes are bytes, below 256.
 -- Assumes nothing.
-use Prim.Native.Nat.{ℕ, zero, suc, _<_, _≤_}
+use Prim.Native.Nat.{ℕ, _<_, _≤_}
 use native.Mathlib.Omega.{arith}
 use mathlib.Core.Bool.{Bool}
 use mathlib.Core.List.{List, [], _∷_, _++_}
@@ -19,6 +19,7 @@ use Rattle.model.specs.declared.Head.{Head}
 use Rattle.model.specs.declared.Scheme.{Scheme}
 use Rattle.records.specs.Bytes.{littleEndian, recordBytes}
 use Rattle.records.proofs.Trip.{Bytes, OkAll}
+use Rattle.records.proofs.Below.{Below, below-bytes, below-append, below-record}
 use Rattle.scheme_bytes.specs.Promises.{AcceptedIffRead}
 use Rattle.scheme_bytes.specs.Write.{headBytes, typeBytes, testBytes, operationBytes, eachBytes, commandBytes, schemeBytes}
 use Rattle.scheme_bytes.proofs.Trips.{facts, passed, HeadFits, head-fits, head-few, sense-few, code-few, restBytes, test-named, change-named, thing-named}
@@ -26,19 +27,6 @@ use Rattle.scheme_bytes.proofs.CommandTrip.{passes-each, pass-turns, ac
 use Rattle.scheme_bytes.proofs.RoundTrips.{accepted-parts, scheme-there, scheme-back}
 
 -- ---- lists of bytes
-abbrev pub Below : List ℕ → Type 0
-Below [] = Unit {0}
-Below (v ∷ l) = (v < 256) × Below l
-
-pub below-bytes : (l : List ℕ) → Below l → Bytes l
-below-bytes [] s i = omega arith
-below-bytes (v ∷ l) s zero = s .0
-below-bytes (v ∷ l) s (suc i) = below-bytes l (s .1) i
-
-pub below-append : (a b : List ℕ) → Below a → Below b → Below (a ++ b)
-below-append [] b s t = t
-below-append (v ∷ a) b s t = (s .0, below-append a b (s .1) t)
-
 below-three : (k m n : ℕ) (x y z : List ℕ) → (k < 256) × (m < 256) × (n < 256) → Below x → Below y → Below z → Below (k ∷ x ++ m ∷ y ++ n ∷ z)
 below-three k m n x y z h a b c = (h .0, below-append (x ++ m ∷ y) (n ∷ z) (below-append x (m ∷ y) a (h .1, b)) (h .2, c))
 
@@ -46,10 +34,6 @@ module _ {A S : Type 0} (f : A → List ℕ) (next : S → A → S) {Ok : S → 
   pub below-each : (s : S) (xs : List A) → OkAll next Ok s xs → Below (eachBytes f xs)
   below-each s [] o = tt
   below-each s (x ∷ xs) o = below-append (f x) (eachBytes f xs) (each s x (o .0)) (below-each (next s x) xs (o .1))
-
-pub below-record : (kind : ℕ) (body : List ℕ) → Below body → Below (recordBytes kind body)
-unfolding recordBytes littleEndian
-below-record kind body s = (omega arith, (omega arith, (omega arith, (omega arith, s))))
 
 -- ---- the bytes of a scheme's parts
 pub head-below : (h : Head) → HeadFits h → Below (headBytes h)

@@ -16,12 +16,12 @@ use Rattle.model.specs.declared.Test.{Test}
 use Rattle.model.specs.declared.Operation.{Operation}
 use Rattle.model.specs.declared.Command.{Command}
 use Rattle.model.specs.declared.Head.{Head}
-use Rattle.model.proofs.Bools.{and-left, and-right, and-both, first-pass, then-pass}
+use Rattle.model.proofs.Bools.{and-left, and-right, and-both, first-pass, then-pass, both-pass}
 use Rattle.records.proofs.Trip.{Trip, body, encAll, OkAll, length-all, trip-as, trip-then, trip-last, trip-steps}
 use Rattle.records.proofs.TripFields.{trip-field}
 use Rattle.scheme_bytes.specs.Read.{commandOf, commandFrom, command}
 use Rattle.scheme_bytes.specs.Write.{typeBytes, testBytes, operationBytes, eachBytes, commandBytes}
-use Rattle.scheme_bytes.proofs.Trips.{pass-both, facts, checks, type-trip, test-trip, operation-trip}
+use Rattle.scheme_bytes.proofs.Trips.{facts, checks, type-trip, test-trip, operation-trip}
 use Rattle.scheme_bytes.proofs.Padded.{Lists, commandOf-padded, padded-lists}
 
 -- ---- each passes, and they pass one by one
@@ -29,7 +29,7 @@ module _ {A : Type 0} (f : A → Fault) where
   pub each-passes : (xs : List A) → OkAll (λ (u : Unit {0}) a. u) (λ u a. T (passes (f a))) tt xs → T (passes (firstFault f xs))
   unfolding firstFault passes
   each-passes [] o = tt
-  each-passes (x ∷ xs) o = pass-both (f x) _ (o .0) (each-passes xs (o .1))
+  each-passes (x ∷ xs) o = both-pass (f x) _ (o .0) (each-passes xs (o .1))
 
   pub passes-each : (xs : List A) → T (passes (firstFault f xs)) → OkAll (λ (u : Unit {0}) a. u) (λ u a. T (passes (f a))) tt xs
   unfolding firstFault passes
@@ -43,7 +43,7 @@ module _ (h : Head) (types : List ThingType) (tests : List Test) where
   pub turns-pass : (before os : List Operation) → InTurn before os → T (passes (operationsFault h types tests before os))
   unfolding operationsFault passes
   turns-pass before [] l = tt
-  turns-pass before (o ∷ os) l = pass-both (operationFault h types tests before o) _ (l .0) (turns-pass (o ∷ before) os (l .1))
+  turns-pass before (o ∷ os) l = both-pass (operationFault h types tests before o) _ (l .0) (turns-pass (o ∷ before) os (l .1))
 
   pub pass-turns : (before os : List Operation) → T (passes (operationsFault h types tests before os)) → InTurn before os
   unfolding operationsFault passes

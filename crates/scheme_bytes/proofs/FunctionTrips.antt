@@ -1,22 +1,16 @@
 -- What `FunctionTrips` states of schemes: the round trips of their bytes, behind the tests that the functions make around them.
 -- Assumes nothing.
-use Prim.Native.Nat.{ℕ, _+_}
+use Prim.Native.Nat.{ℕ}
 use native.Mathlib.Nat.{zero-add}
-use mathlib.Core.Bool.{Bool, true, false, cond}
-use mathlib.Core.List.{List}
-use mathlib.Core.Path.{_≡_, refl, sym, ap, _∙_}
-use lib.Dec.{T, leb}
-use lib.ListN.{length, take}
-use borrow.Author.Tests.{le-leb, leb-true}
+use mathlib.Core.Path.{_≡_, ap}
+use borrow.Author.Tests.{le-leb}
 use Rattle.model.specs.Accepted.{acceptedScheme}
 use Rattle.model.specs.declared.Scheme.{Scheme}
 use Rattle.model.proofs.Bools.{is-true}
 use Rattle.records.specs.Reading.{Read, got, fault}
 use Rattle.records.specs.Front.{Refusal}
-use Rattle.records.specs.Writing.{placed, writeBytes}
+use Rattle.records.specs.Writing.{writeBytes}
 use Rattle.records.specs.declared.Reading.the-variants.{Done}
-use Rattle.records.specs.declared.Writing.{Writing}
-use Rattle.records.specs.declared.Writing.the-variants as writing
 use Rattle.records.proofs.FieldLaws.{apart}
 use Rattle.records.proofs.Wrote.{wrote, wrote-first}
 use Rattle.scheme_bytes.specs.Answers.{asScheme, readScheme}

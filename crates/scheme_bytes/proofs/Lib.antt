@@ -5,5 +5,7 @@ pub mod CommandTrip
 pub mod RoundTrips
 pub mod AcceptedTrip
 pub mod FieldReads
+pub mod CommandLaws
 pub mod ReadLaws
 pub mod FunctionTrips
+pub mod Held

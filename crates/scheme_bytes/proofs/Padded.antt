@@ -1,13 +1,12 @@
 -- An array with zeros behind its used places is a list followed by zeros: once for all element types, then of a command and of a scheme's commands.
 -- Assumes nothing.
-use Prim.Native.Nat.{ℕ, zero, suc, _-_, _≤_}
+use Prim.Native.Nat.{ℕ, _-_, _≤_}
 use native.Mathlib.Omega.{arith}
 use mathlib.Core.Path.{_≡_, refl, sym, ap, _∙_}
 use mathlib.Core.Bool.{Bool, false, not}
 use mathlib.Core.List.{List, [], _∷_, _++_}
-use lib.Dec.{T, eqb, eqb→eq, eqb-refl}
-use lib.ListN.{length, take, drop, replicate, length-append, length-drop, length-replicate, take-append-drop}
-use lib.Seq.{length-take-le, drop-at}
+use lib.Dec.{T, eqb, eqb→eq}
+use lib.ListN.{length, take, drop, replicate, length-drop, take-append-drop}
 use Rattle.rights.specs.declared.ThingType.{ThingType}
 use Rattle.model.specs.Check.{all}
 use Rattle.model.specs.Scheme.{parametersOf, testsOf, operationsOf}
@@ -18,6 +17,7 @@ use Rattle.model.specs.declared.Code.the-variants.{Enter, Delete, Create, Destr
 use Rattle.model.specs.declared.Operation.{Operation}
 use Rattle.model.specs.declared.Command.{Command}
 use Rattle.model.proofs.Bools.{is-false, and-left, and-right, and-both, not-both}
+use Rattle.model.proofs.Padded.{padded-list, used}
 use Rattle.scheme_bytes.specs.Read.{noType, noTest, noOperation, commandOf, noCommand}
 
 -- ---- a list followed by zeros
@@ -26,28 +26,20 @@ pub record Zero {A : Type 0} (zero? : A → Bool) (blank : A) : Type 0 where
   pub only : (a : A) → T (zero? a) → a ≡ blank
 
 module _ {A : Type 0} {zero? : A → Bool} {blank : A} (z : Zero zero? blank) where
-  all-blank : (n : ℕ) → T (all zero? (replicate n blank))
-  unfolding all
-  all-blank zero = tt
-  all-blank (suc n) = and-both (zero? blank) _ (z .is) (all-blank n)
-
   blanks : (l : List A) → T (all zero? l) → l ≡ replicate (length l) blank
   unfolding all
   blanks [] t = refl
   blanks (a ∷ l) t = rw (← (blanks l (and-right (zero? a) _ t)), z .only a (and-left (zero? a) _ t))
 
   pub pad : (many count : ℕ) (xs : List A) → length xs ≡ count → count ≤ many → T (padded zero? many count (xs ++ replicate (many - length xs) blank))
-  unfolding padded
-  pad many count xs e h =
-      let l : length (xs ++ replicate (many - length xs) blank) ≡ many = simp (length-append, length-replicate) (omega arith) in
-      rw (l, drop-at) (and-both (eqb many many) _ (eqb-refl many) (all-blank (many - length xs)))
+  pad many count xs e h = rw (← e) (padded-list zero? many xs blank (z .is) (omega arith))
 
   pub unpad : (many count : ℕ) (l : List A) → T (padded zero? many count l) → count ≤ many →
       (length (take count l) ≡ count) × (l ≡ take count l ++ replicate (many - length (take count l)) blank)
   unfolding padded
   unpad many count l t h =
       let e : length l ≡ many = eqb→eq (length l) many (and-left (eqb (length l) many) _ t) in
-      let n : length (take count l) ≡ count = length-take-le count l (omega arith) in
+      let n : length (take count l) ≡ count = used zero? many count l t h in
       let d : length (drop count l) ≡ many - length (take count l) = omega (arith, length-drop count l) in
       (n, sym (take-append-drop count l) ∙ rw (← d) (ap (λ (r : List A). take count l ++ r) (blanks (drop count l) (and-right (eqb (length l) many) _ t))))
 
@@ -94,9 +86,9 @@ pub commandOf-padded : (types : List ThingType) (tests : List Test) (operations 
     length types ≤ 8 → length tests ≤ 16 → length operations ≤ 32 → T (paddedCommand (commandOf types tests operations))
 unfolding paddedCommand commandOf
 commandOf-padded types tests operations h l m =
-    let a = pad no-type 8 (length types) types refl h in
-    let b = pad no-test 16 (length tests) tests refl l in
-    let d = pad no-operation 32 (length operations) operations refl m in
+    let a = padded-list zeroType 8 types noType (no-type .is) h in
+    let b = padded-list zeroTest 16 tests noTest (no-test .is) l in
+    let d = padded-list zeroOperation 32 operations noOperation (no-operation .is) m in
     search and-both
 
 -- the lists that its arrays hold are as long as its counts say, and with zeros behind they are all of it

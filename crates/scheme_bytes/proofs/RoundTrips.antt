@@ -21,7 +21,7 @@ use Rattle.records.specs.Reading.{Read, got, fault, Reader, bind, done, steps, 
 use Rattle.records.specs.Front.{Refusal, inRecord}
 use Rattle.records.proofs.Trip.{Bytes, Stand, Trip, input, OkAll, got-value, got-left, never, bind-got, trip-as, trip-then, trip-last, trip-steps}
 use Rattle.records.proofs.TripRecord.{trip-kind}
-use Rattle.scheme_bytes.specs.Read.{head, command, schemeOf, atEnd, scheme}
+use Rattle.scheme_bytes.specs.Read.{head, command, schemeOf, atEnd, schemeRest, scheme}
 use Rattle.scheme_bytes.specs.Write.{headBytes, schemeBytes}
 use Rattle.scheme_bytes.specs.Promises.{RoundTrips}
 use Rattle.scheme_bytes.proofs.Trips.{head-fits, head-few, head-trip}
@@ -97,7 +97,7 @@ module _ {I F C : Type 0} (end : Reader I F Unit) where
   bind-ends (fault k) q f = refl
 
 pub scheme-ends : (s : List ℕ) (at : ℕ) → scheme s at ≡ bind (parts s at) (λ x. atEnd s >> done x)
-unfolding scheme
+unfolding scheme schemeRest
 scheme-ends s at = bind-ends (atEnd s) (inRecord s 2 (λ kind. head) at) (commands s) schemeOf
 
 pub end-there : (s : List ℕ) → atEnd s (length s) ≡ got tt (length s)

@@ -4,43 +4,28 @@ use Prim.Native.Nat.{ℕ, zero, suc, _^_, _<_, _≤_}
 use native.Mathlib.Omega.{arith}
 use native.Mathlib.Nat.{pow-le-pow-right}
 use mathlib.Core.Path.{_≡_, refl}
-use mathlib.Core.Bool.{Bool, true, false, not, cond, _&&_}
-use mathlib.Core.Option.{none, some}
+use mathlib.Core.Bool.{Bool, true, false, cond}
 use mathlib.Core.List.{List, [], _∷_}
 use lib.Dec.{T, eqb, leb, eqb→eq, leb→le, le→leb, ltb→lt, lt→ltb}
 use lib.ListN.{length}
 use Rattle.rights.specs.Sets.{within}
 use Rattle.rights.specs.declared.ThingType.{ThingType}
-use Rattle.model.specs.Check.{Fault, _orElse_, must, passes, any}
-use Rattle.model.specs.Scheme.{isSubject, typeAt, creates, destroys, names}
+use Rattle.model.specs.Check.{passes}
+use Rattle.model.specs.Scheme.{isSubject, typeAt}
 use Rattle.model.specs.Accepted.{between, headFault, typeRange, rowFault, testFault, group, lastGroup, changeFault, thingFault, codeFault, operationFault}
 use Rattle.model.specs.declared.Test.{Test}
 use Rattle.model.specs.declared.Code.{Code}
 use Rattle.model.specs.declared.Code.the-variants.{Enter, Delete, Create, Destroy}
 use Rattle.model.specs.declared.Operation.{Operation}
 use Rattle.model.specs.declared.Head.{Head}
-use Rattle.model.proofs.Bools.{and-left, and-right, and-both, must-pass, first-pass, then-pass}
+use Rattle.model.proofs.Bools.{and-left, and-right, must-pass, first-pass, then-pass, must-true, both-pass, between-is}
 use Rattle.records.specs.Reading.{done, check, field, _>>=_, _>>_}
 use Rattle.records.proofs.Trip.{Trip, body, trip-as, trip-check, trip-then, trip-last}
 use Rattle.records.proofs.TripFields.{trip-number, trip-field}
-use Rattle.scheme_bytes.specs.Read.{head, type, test, codeOf, change, thing, byCode, operation}
+use Rattle.scheme_bytes.specs.Read.{head, type, test, codeOf, change, thing, formOf, byCode, operation}
 use Rattle.scheme_bytes.specs.Write.{headBytes, typeBytes, testBytes, codeNumber, operationBytes}
 
 -- ---- checks that pass, from what they check
-pub pass-must : (b : Bool) (k : ℕ) → T b → T (passes (must b k))
-unfolding must passes
-pass-must true k t = tt
-pass-must false k t = t
-
-pub pass-both : (a b : Fault) → T (passes a) → T (passes b) → T (passes (a orElse b))
-unfolding _orElse_ passes
-pass-both none b t u = u
-pass-both (some k) b t u = t
-
-pub between-both : (low high x : ℕ) → low ≤ x → x ≤ high → T (between low high x)
-unfolding between
-between-both low high x l h = and-both (leb low x) (leb x high) (le→leb low x l) (le→leb x high h)
-
 pub between-low : (low high x : ℕ) → T (between low high x) → low ≤ x
 unfolding between
 between-low low high x t = leb→le low x (and-left (leb low x) (leb x high) t)
@@ -53,7 +38,7 @@ pub ruleset passed = (first-pass, then-pass, must-pass)
 
 pub ruleset facts = (first-pass, then-pass, must-pass, between-low, between-high, leb→le, ltb→lt, eqb→eq)
 
-pub ruleset checks = (pass-both, pass-must, between-both, le→leb, lt→ltb)
+pub ruleset checks = (both-pass, must-true, between-is, le→leb, lt→ltb)
 
 -- ---- the head
 pub few-types : (m set : ℕ) → m ≤ 16 → T (within m set) → set < 256 ^ 2
@@ -237,11 +222,11 @@ module _ (h : Head) (few : (h .rights ≤ 64) × (h .types ≤ 16)) where
     module _ (tests : List Test) (before : List Operation) where
       pub by-code-trip : (code : Code) →
           Trip body (byCode h types tests before code) restBytes (λ o. T (passes (codeFault h types tests before o code)) × (o .code ≡ code))
-      unfolding byCode codeFault
+      unfolding byCode formOf codeFault
       by-code-trip Enter = change-trip Enter
       by-code-trip Delete = change-trip Delete
-      by-code-trip Create = thing-trip Create (λ p. not (any (names p) tests) && not (any (creates p) before))
-      by-code-trip Destroy = thing-trip Destroy (λ p. not (any (destroys p) before))
+      by-code-trip Create = thing-trip Create (formOf tests before Create)
+      by-code-trip Destroy = thing-trip Destroy (formOf tests before Destroy)
 
       pub operation-trip : Trip body (operation h types tests before) operationBytes (λ o. T (passes (operationFault h types tests before o)))
       unfolding operation operationBytes operationFault

@@ -1,7 +1,9 @@
 -- The answers of the functions, from what the definitions give.
 -- Assumes nothing.
 use Prim.Native.Nat.{ℕ, _-_}
-use mathlib.Core.List.{List, [], _++_}
+use mathlib.Core.Bool.{cond}
+use mathlib.Core.List.{List, _++_}
+use lib.Dec.{leb}
 use lib.ListN.{length, replicate}
 use Rattle.rights.specs.declared.ThingType.{ThingType}
 use Rattle.model.specs.declared.Test.{Test}
@@ -9,15 +11,14 @@ use Rattle.model.specs.declared.Operation.{Operation}
 use Rattle.model.specs.declared.Command.{Command}
 use Rattle.model.specs.declared.Head.{Head}
 use Rattle.model.specs.declared.Scheme.{Scheme}
-use Rattle.records.specs.Reading.{Read, got, fault}
-use Rattle.records.specs.Front.{Refusal}
-use Rattle.records.specs.declared.RecordAnswer.{RecordAnswer}
-use Rattle.records.specs.declared.RecordAnswer.the-variants as record-answer
-use Rattle.records.specs.declared.Reading.{Reading}
+use Rattle.records.specs.Reading.{Read, got, fault, bind}
+use Rattle.records.specs.Front.{Refusal, inRecord}
 use Rattle.records.specs.declared.Reading.the-variants.{Done, Refused}
-use Rattle.scheme_bytes.specs.Read.{scheme, noType, noTest, noOperation, noCommand}
+use Rattle.scheme_bytes.specs.Read.{head, schemeRest, scheme, noType, noTest, noOperation, noCommand}
 use Rattle.scheme_bytes.specs.declared.answers.HeadAnswer.{HeadAnswer}
-use Rattle.scheme_bytes.specs.declared.answers.HeadAnswer.the-variants as head
+use Rattle.scheme_bytes.specs.declared.answers.HeadAnswer.the-variants as head-answer
+use Rattle.scheme_bytes.specs.declared.answers.HeadAt.{HeadAt}
+use Rattle.scheme_bytes.specs.declared.answers.HeadAt.the-variants as head-at
 use Rattle.scheme_bytes.specs.declared.answers.TestAnswer.{TestAnswer}
 use Rattle.scheme_bytes.specs.declared.answers.TestAnswer.the-variants as test
 use Rattle.scheme_bytes.specs.declared.answers.OperationAnswer.{OperationAnswer}
@@ -33,8 +34,8 @@ use Rattle.scheme_bytes.specs.declared.answers.SchemeAnswer.{SchemeAnswe
 
 -- ---- parts of a body: the value, or the number of the fault
 abbrev pub asHead : Read (List ℕ) ℕ Head → HeadAnswer
-asHead (got h rest) = head.Good h
-asHead (fault k) = head.Fault k
+asHead (got h rest) = head-answer.Good h
+asHead (fault k) = head-answer.Fault k
 
 abbrev pub asTest : Read (List ℕ) ℕ Test → TestAnswer
 asTest (got t rest) = test.Good t
@@ -63,6 +64,10 @@ asCommand (got c rest) = record { answer = Whole; command = c }
 asCommand (fault k) = record { answer = Fault k; command = noCommand }
 
 -- ---- records: the next position, or the number with the record's position
+abbrev pub asHeadAt : Read ℕ Refusal Head → HeadAt
+asHeadAt (got h next) = head-at.Good h next
+asHeadAt (fault f) = head-at.Refused (f .number) (f .at)
+
 abbrev pub asCommandAt : Read ℕ Refusal Command → CommandAnswer
 asCommandAt (got c next) = record { answer = Done next; command = c }
 asCommandAt (fault f) = record { answer = Refused (f .number) (f .at); command = noCommand }
@@ -71,15 +76,22 @@ abbrev pub asCommandsAt : Read ℕ Refusal (List Command) → CommandsAnswer
 asCommandsAt (got cs next) = record { answer = Done next; commands = cs ++ replicate (32 - length cs) noCommand }
 asCommandsAt (fault f) = record { answer = Refused (f .number) (f .at); commands = replicate 32 noCommand }
 
--- a record's refusal as it is passed up; it is asked of no record
-abbrev pub refusalOf : {A : Type 0} → RecordAnswer → Read ℕ Refusal A
-refusalOf (record-answer.Record kind start len) = fault (record { number = 0; at = 0 })
-refusalOf (record-answer.Refused k q) = fault (record { number = k; at = q })
-
 -- the content and the next position; or the number with the record's position, and the table as it stood
 abbrev pub asScheme : Scheme → Read ℕ Refusal Scheme → SchemeAnswer
 asScheme table (got s next) = record { answer = Done next; scheme = s }
 asScheme table (fault f) = record { answer = Refused (f .number) (f .at); scheme = table }
+
+-- ---- the functions: the head at a position; what follows it; both
+unfoldable pub readHead : List ℕ → ℕ → HeadAt
+readHead bytes at = asHeadAt (inRecord bytes 2 (λ kind. head) at)
+
+-- the way back; a head of more commands than a scheme has is 4 as its bytes are, so that the rest is said of every head
+abbrev pub headFound : HeadAt → Read ℕ Refusal Head
+headFound (head-at.Good h next) = cond (leb (h .count) 32) (got h next) (fault (record { number = 4; at = next }))
+headFound (head-at.Refused k q) = fault (record { number = k; at = q })
+
+unfoldable pub readRest : List ℕ → HeadAt → Scheme → SchemeAnswer
+readRest bytes found table = asScheme table (bind (headFound found) (schemeRest bytes))
 
 unfoldable pub readScheme : List ℕ → Scheme → SchemeAnswer
 readScheme bytes table = asScheme table (scheme bytes 0)

@@ -1,7 +1,7 @@
 -- Reading a scheme: the outline, "Bytes" and "Refusal numbers", in field order.
 -- Assumes nothing.
 use Prim.Native.Nat.{ℕ, _-_}
-use mathlib.Core.Bool.{Bool, false, cond, not, _&&_}
+use mathlib.Core.Bool.{Bool, true, false, cond, not, _&&_}
 use mathlib.Core.List.{List, [], _∷_, _++_}
 use lib.Dec.{eqb, leb}
 use lib.ListN.{length, replicate}
@@ -17,7 +17,7 @@ use Rattle.model.specs.declared.Operation.{Operation}
 use Rattle.model.specs.declared.Command.{Command}
 use Rattle.model.specs.declared.Head.{Head}
 use Rattle.model.specs.declared.Scheme.{Scheme}
-use Rattle.records.specs.Reading.{Read, got, fault, Reader, Body, _>>=_, _>>_, done, check, steps, field, number}
+use Rattle.records.specs.Reading.{got, fault, Reader, Body, _>>=_, _>>_, done, check, steps, field, number}
 use Rattle.records.specs.Front.{Refusal, inRecord}
 
 -- ---- the head: n (1), m (1), subject types (2), commands (1)
@@ -69,11 +69,17 @@ thing types fits code = do
   done (record { code = code; right = record { 0 = right }; row = record { 0 = row }; column = record { 0 = column } })
 
 -- a create of a parameter created or tested before, and a destroy named twice, are faults of form
+unfoldable pub formOf : List Test → List Operation → Code → ℕ → Bool
+formOf tests before Enter p = true
+formOf tests before Delete p = true
+formOf tests before Create p = not (any (names p) tests) && not (any (creates p) before)
+formOf tests before Destroy p = not (any (destroys p) before)
+
 unfoldable pub byCode : Head → List ThingType → List Test → List Operation → Code → Body Operation
 byCode h types tests before Enter = change h types Enter
 byCode h types tests before Delete = change h types Delete
-byCode h types tests before Create = thing types (λ p. not (any (names p) tests) && not (any (creates p) before)) Create
-byCode h types tests before Destroy = thing types (λ p. not (any (destroys p) before)) Destroy
+byCode h types tests before Create = thing types (formOf tests before Create) Create
+byCode h types tests before Destroy = thing types (formOf tests before Destroy) Destroy
 
 -- an operation, read behind those before it (the last of them first)
 unfoldable pub operation : Head → List ThingType → List Test → List Operation → Body Operation
@@ -128,10 +134,15 @@ noScheme = schemeOf (record { rights = 0; types = 0; subjects = record { 0 = 0 }
 unfoldable pub atEnd : List ℕ → Reader ℕ Refusal Unit
 atEnd s = λ at. cond (eqb at (length s)) (got tt at) (fault (record { number = 8; at = at }))
 
+-- behind the head
+unfoldable pub schemeRest : List ℕ → Head → Reader ℕ Refusal Scheme
+schemeRest s h = do
+  cs ← steps (λ (u : Unit {0}). inRecord s 4 (λ kind. command h)) (λ u c. u) (h .count) tt
+  atEnd s
+  done (schemeOf h cs)
+
 -- kind 1 is bit 1, kind 2 bit 2 of the kinds that may stand there
 unfoldable pub scheme : List ℕ → Reader ℕ Refusal Scheme
 scheme s = do
   h ← inRecord s 2 (λ kind. head)
-  cs ← steps (λ (u : Unit {0}). inRecord s 4 (λ kind. command h)) (λ u c. u) (h .count) tt
-  atEnd s
-  done (schemeOf h cs)
+  schemeRest s h

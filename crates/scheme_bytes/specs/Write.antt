@@ -1,8 +1,8 @@
 -- A scheme's bytes, and writing them: 27, then 9.
 -- Assumes nothing.
 use Prim.Native.Nat.{ℕ, _≤_}
-use mathlib.Core.Bool.{Bool, cond}
-use mathlib.Core.List.{List, [], _∷_, _++_, map}
+use mathlib.Core.Bool.{cond}
+use mathlib.Core.List.{List, [], _∷_, _++_}
 use lib.ListN.{length}
 use Rattle.rights.specs.declared.ThingType.{ThingType}
 use Rattle.model.specs.Scheme.{parametersOf, testsOf, operationsOf, commandsOf}

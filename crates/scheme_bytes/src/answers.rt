@@ -20,6 +20,12 @@ pub enum HeadAnswer {
     Fault(u8),
 }
 
+// The head and the position behind its record, or the refusal.
+pub enum HeadAt {
+    Good { head: Head, next: usize },
+    Refused { number: u8, at: usize },
+}
+
 pub enum TestAnswer {
     Good(Test),
     Fault(u8),

@@ -20,19 +20,15 @@ use rights::Parameter;
 use rights::Right;
 use rights::TypeSet;
 ghost use mathlib.Core.Path.{_≡_};
-ghost use mathlib.Core.Bool.{not, _&&_};
-ghost use Prim.Native.Nat.{_≤_, _<_};
+ghost use Prim.Native.Nat.{_≤_};
 ghost use lib.ListN.{drop};
-ghost use Rattle.model.specs.Check.{any};
-ghost use Rattle.model.specs.Scheme.{creates, destroys, names};
-ghost use Rattle.model.specs.declared.Code.the-variants.{Create, Destroy};
 ghost use Rattle.records.specs.Reading.{whole};
 ghost use Rattle.accepted.specs.Answers.{typesOf, listOf, before};
-ghost use Rattle.scheme_bytes.specs.Read.{head, test, codeOf, change, thing, operation};
+ghost use Rattle.scheme_bytes.specs.Read.{head, test, codeOf, change, thing, formOf, operation};
 ghost use Rattle.scheme_bytes.specs.Answers.{asHead, asTest, asOperation};
 
 // The head of a body: 5 bytes.
-pub fn head_of(b: &[u8]) -> HeadAnswer
+pub(crate) fn head_of(b: &[u8]) -> HeadAnswer
     ensures { λ r. ⌜ r ≡ asHead (whole head (now (b .entry))) ⌝ }
 {
     let rights = match records::field_at(b, 0, 1, 65, 4) {
@@ -67,7 +63,7 @@ pub fn head_of(b: &[u8]) -> HeadAnswer
 }
 
 // The test in the four bytes from i on.
-pub fn test_at(b: &[u8], i: usize, h: Head, p: Parameters) -> TestAnswer
+pub(crate) fn test_at(b: &[u8], i: usize, h: Head, p: Parameters) -> TestAnswer
     requires { ⌜ (i ≤ 4096) × (p .count ≤ 8) ⌝ }
     ensures { λ r. ⌜ r ≡ asTest (test h (typesOf p) (drop i (now (b .entry)))) ⌝ }
 {
@@ -141,17 +137,30 @@ fn change_at(b: &[u8], i: usize, h: Head, p: Parameters, code: Code) -> Operatio
     })
 }
 
-// The fields behind the code of a create, and of a destroy, with the test of its form.
-fn create_at(
+// The test of form of a create and of a destroy; the other codes have none.
+fn in_form(t: Tests, o: Operations, n: usize, code: Code, p: Parameter) -> bool
+    ensures { λ r. ⌜ r ≡ formOf (listOf t) (before o n) code (p .0) ⌝ }
+{
+    match code {
+        Code::Enter => true,
+        Code::Delete => true,
+        Code::Create => may_create(t, o, n, p),
+        Code::Destroy => !destroyed(o, n, p),
+    }
+}
+
+// The fields behind the code of a create or a destroy.
+fn thing_at(
     b: &[u8],
     i: usize,
     p: Parameters,
     t: Tests,
     o: Operations,
     n: usize,
+    code: Code,
 ) -> OperationAnswer
     requires { ⌜ (i ≤ 4096) × (p .count ≤ 8) ⌝ }
-    ensures { λ r. ⌜ r ≡ asOperation (thing (typesOf p) (λ q. not (any (names q) (listOf t)) && not (any (creates q) (before o n))) Create (drop i (now (b .entry)))) ⌝ }
+    ensures { λ r. ⌜ r ≡ asOperation (thing (typesOf p) (formOf (listOf t) (before o n) code) code (drop i (now (b .entry)))) ⌝ }
 {
     let right = match records::field_at(b, i, 0, 1, 6) {
         Field::Value(v) => v,
@@ -161,7 +170,7 @@ fn create_at(
         Field::Value(v) => v,
         Field::Fault(x) => return OperationAnswer::Fault(x),
     };
-    if !may_create(t, o, n, Parameter(row)) {
+    if !in_form(t, o, n, code, Parameter(row)) {
         return OperationAnswer::Fault(6);
     }
     let column = match records::field_at(b, i + 2, 0, 1, 6) {
@@ -169,34 +178,7 @@ fn create_at(
         Field::Fault(x) => return OperationAnswer::Fault(x),
     };
     OperationAnswer::Good(Operation {
-        code: Code::Create,
-        right: Right(right),
-        row: Parameter(row),
-        column: Parameter(column),
-    })
-}
-
-fn destroy_at(b: &[u8], i: usize, p: Parameters, o: Operations, n: usize) -> OperationAnswer
-    requires { ⌜ (i ≤ 4096) × (p .count ≤ 8) ⌝ }
-    ensures { λ r. ⌜ r ≡ asOperation (thing (typesOf p) (λ q. not (any (destroys q) (before o n))) Destroy (drop i (now (b .entry)))) ⌝ }
-{
-    let right = match records::field_at(b, i, 0, 1, 6) {
-        Field::Value(v) => v,
-        Field::Fault(x) => return OperationAnswer::Fault(x),
-    };
-    let row = match records::field_at(b, i + 1, 0, p.count, 5) {
-        Field::Value(v) => v,
-        Field::Fault(x) => return OperationAnswer::Fault(x),
-    };
-    if destroyed(o, n, Parameter(row)) {
-        return OperationAnswer::Fault(6);
-    }
-    let column = match records::field_at(b, i + 2, 0, 1, 6) {
-        Field::Value(v) => v,
-        Field::Fault(x) => return OperationAnswer::Fault(x),
-    };
-    OperationAnswer::Good(Operation {
-        code: Code::Destroy,
+        code,
         right: Right(right),
         row: Parameter(row),
         column: Parameter(column),
@@ -204,7 +186,7 @@ fn destroy_at(b: &[u8], i: usize, p: Parameters, o: Operations, n: usize) -> Ope
 }
 
 // The operation in the four bytes from i on, behind the first n of those that were read.
-pub fn operation_at(
+pub(crate) fn operation_at(
     b: &[u8],
     i: usize,
     h: Head,
@@ -227,7 +209,7 @@ pub fn operation_at(
     match code {
         Code::Enter => change_at(b, i + 1, h, p, Code::Enter),
         Code::Delete => change_at(b, i + 1, h, p, Code::Delete),
-        Code::Create => create_at(b, i + 1, p, t, o, n),
-        Code::Destroy => destroy_at(b, i + 1, p, o, n),
+        Code::Create => thing_at(b, i + 1, p, t, o, n, Code::Create),
+        Code::Destroy => thing_at(b, i + 1, p, t, o, n, Code::Destroy),
     }
 }

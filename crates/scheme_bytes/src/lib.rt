@@ -1,8 +1,14 @@
 // A scheme from bytes. Its writer stands in `scheme_write`, so that a change of one rechecks only that one.
 mod answers;
+mod command;
 mod fields;
+mod none;
 mod read;
+mod reader;
 
+pub use answers::HeadAt;
 pub use answers::SchemeAnswer;
-pub use read::no_scheme;
-pub use read::read_scheme;
+pub use none::no_scheme;
+pub use reader::SchemeReader;
+pub use reader::read_scheme;
+pub use reader::scheme_reader;

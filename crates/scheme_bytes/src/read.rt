@@ -1,329 +1,61 @@
-// Reading a scheme: its head, its commands one by one, and the end.
-use crate::answers::CommandAnswer;
-use crate::answers::CommandRead;
+// Reading a scheme on a slice and a position: its head, its commands one by one, and the end.
 use crate::answers::CommandsAnswer;
 use crate::answers::HeadAnswer;
-use crate::answers::OperationAnswer;
-use crate::answers::OperationsRead;
+use crate::answers::HeadAt;
 use crate::answers::SchemeAnswer;
-use crate::answers::TestAnswer;
-use crate::answers::TestsRead;
-use crate::answers::TypesRead;
-use crate::answers::Walk;
+use crate::command::read_command;
 use crate::fields::head_of;
-use crate::fields::operation_at;
-use crate::fields::test_at;
-use model::Code;
-use model::Command;
+use crate::none::no_command;
 use model::Head;
-use model::Operation;
-use model::Operations;
-use model::Parameters;
 use model::Scheme;
-use model::Test;
-use model::Tests;
-use records::Field;
 use records::Kinds;
 use records::Reading;
 use records::RecordAnswer;
-use rights::Parameter;
-use rights::Right;
-use rights::ThingType;
-use rights::TypeSet;
 ghost use mathlib.Core.Path.{_≡_};
-ghost use mathlib.Core.List.{[], _∷_};
-ghost use Prim.Native.Nat.{_≤_, _<_};
-ghost use lib.ListN.{drop};
-ghost use Rattle.records.specs.Reading.{whole, steps, got, fault};
-ghost use Rattle.records.specs.Front.{inRecord};
-ghost use Rattle.accepted.specs.Answers.{typesOf, listOf};
-ghost use Rattle.scheme_bytes.specs.Read.{type, test, operation, commandFrom, command, noTest, noOperation, noCommand, noScheme};
-ghost use Rattle.scheme_bytes.specs.Answers.{asTypes, asTests, asOperations, asCommand, asCommandAt, asCommandsAt, refusalOf, asScheme, readScheme};
+ghost use Prim.Native.Nat.{_≤_};
+ghost use Rattle.records.specs.Reading.{steps, fault};
+ghost use Rattle.records.specs.Front.{inRecord, refusalOf};
+ghost use Rattle.scheme_bytes.specs.Read.{command};
+ghost use Rattle.scheme_bytes.specs.Answers.{asHeadAt, asCommandsAt, asScheme, readHead, readRest};
 
-// ---- nothing, as the unused places of the arrays hold it
+// ---- the head
 
-fn no_test() -> Test
-    ensures { λ r. ⌜ r ≡ noTest ⌝ }
-{
-    Test {
-        present: false,
-        right: Right(0),
-        row: Parameter(0),
-        column: Parameter(0),
-    }
-}
-
-fn no_operation() -> Operation
-    ensures { λ r. ⌜ r ≡ noOperation ⌝ }
-{
-    Operation {
-        code: Code::Enter,
-        right: Right(0),
-        row: Parameter(0),
-        column: Parameter(0),
-    }
-}
-
-fn no_command() -> Command
-    ensures { λ r. ⌜ r ≡ noCommand ⌝ }
-{
-    let test = no_test();
-    let operation = no_operation();
-    let parameters = Parameters {
-        count: 0,
-        types: [ThingType(0); 8],
-    };
-    let tests = Tests {
-        count: 0,
-        list: [test; 16],
-    };
-    let operations = Operations {
-        count: 0,
-        list: [operation; 32],
-    };
-    Command {
-        parameters,
-        tests,
-        operations,
-    }
-}
-
-// A table to read into: no rights, no types, no commands. No reading gives it, so it is 27 everywhere.
-pub fn no_scheme() -> Scheme
-    ensures { λ r. ⌜ r ≡ noScheme ⌝ }
-{
-    let none = no_command();
-    Scheme {
-        head: Head {
-            rights: 0,
-            types: 0,
-            subjects: TypeSet(0),
-            count: 0,
-        },
-        commands: [none; 32],
-    }
-}
-
-// ---- the lists of a command
-
-fn types_at(b: &[u8], i: usize, h: Head, k: u8) -> TypesRead
-    requires { ⌜ (i ≤ 1024) × (k ≤ 8) ⌝ }
-    ensures { λ r. ⌜ r ≡ asTypes (steps (λ (u : Unit {0}). type h) (λ u t. u) k tt (drop i (now (b .entry)))) ⌝ }
-{
-    let n = k as usize;
-    let mut types = [ThingType(0); 8];
-    let mut j: usize = 0;
-    while j < n {
-        match records::field_at(b, i + j, 0, h.types, 5) {
-            Field::Value(v) => {
-                types[j] = ThingType(v);
-            }
-            Field::Fault(x) => {
-                return TypesRead {
-                    answer: Walk::Fault(x),
-                    parameters: Parameters {
-                        count: 0,
-                        types: [ThingType(0); 8],
-                    },
-                };
-            }
-        }
-        j += 1;
-    }
-    TypesRead {
-        answer: Walk::Whole,
-        parameters: Parameters { count: k, types },
-    }
-}
-
-fn no_tests(x: u8) -> TestsRead
-    ensures { λ r. ⌜ r ≡ asTests (fault x) ⌝ }
-{
-    let none = no_test();
-    TestsRead {
-        answer: Walk::Fault(x),
-        tests: Tests {
-            count: 0,
-            list: [none; 16],
-        },
-    }
-}
-
-fn tests_at(b: &[u8], i: usize, h: Head, p: Parameters, k: u8) -> TestsRead
-    requires { ⌜ (i ≤ 1024) × (p .count ≤ 8) × (k ≤ 16) ⌝ }
-    ensures { λ r. ⌜ r ≡ asTests (steps (λ (u : Unit {0}). test h (typesOf p)) (λ u t. u) k tt (drop i (now (b .entry)))) ⌝ }
-{
-    let n = k as usize;
-    let none = no_test();
-    let mut list = [none; 16];
-    let mut j: usize = 0;
-    while j < n {
-        match test_at(b, i + 4 * j, h, p) {
-            TestAnswer::Good(t) => {
-                list[j] = t;
-            }
-            TestAnswer::Fault(x) => {
-                return no_tests(x);
-            }
-        }
-        j += 1;
-    }
-    TestsRead {
-        answer: Walk::Whole,
-        tests: Tests { count: k, list },
-    }
-}
-
-fn no_operations(x: u8) -> OperationsRead
-    ensures { λ r. ⌜ r ≡ asOperations (fault x) ⌝ }
-{
-    let none = no_operation();
-    OperationsRead {
-        answer: Walk::Fault(x),
-        operations: Operations {
-            count: 0,
-            list: [none; 32],
-        },
-    }
-}
-
-fn operations_at(b: &[u8], i: usize, h: Head, p: Parameters, t: Tests, k: u8) -> OperationsRead
-    requires { ⌜ (i ≤ 1024) × (p .count ≤ 8) × (k ≤ 32) ⌝ }
-    ensures { λ r. ⌜ r ≡ asOperations (steps (operation h (typesOf p) (listOf t)) (λ before o. o ∷ before) k [] (drop i (now (b .entry)))) ⌝ }
-{
-    let n = k as usize;
-    let none = no_operation();
-    let mut list = [none; 32];
-    let mut j: usize = 0;
-    while j < n {
-        match operation_at(b, i + 4 * j, h, p, t, Operations { count: k, list }, j) {
-            OperationAnswer::Good(o) => {
-                list[j] = o;
-            }
-            OperationAnswer::Fault(x) => {
-                return no_operations(x);
-            }
-        }
-        j += 1;
-    }
-    OperationsRead {
-        answer: Walk::Whole,
-        operations: Operations { count: k, list },
-    }
-}
-
-// ---- a command
-
-fn refused(x: u8) -> CommandRead
-    ensures { λ r. ⌜ r ≡ asCommand (fault x) ⌝ }
-{
-    CommandRead {
-        answer: Walk::Fault(x),
-        command: no_command(),
-    }
-}
-
-// What follows the types: the tests, the operations, and the end.
-fn command_from(b: &[u8], i: usize, h: Head, p: Parameters) -> CommandRead
-    requires { ⌜ (i ≤ 16) × (p .count ≤ 8) × (p ≡ asTypes (got (typesOf p) []) .parameters) ⌝ }
-    ensures { λ r. ⌜ r ≡ asCommand (whole (commandFrom h (typesOf p)) (drop i (now (b .entry)))) ⌝ }
-{
-    let t = match records::field_at(b, i, 0, 17, 4) {
-        Field::Value(v) => v,
-        Field::Fault(x) => return refused(x),
-    };
-    let found = tests_at(b, i + 1, h, p, t);
-    let tests = found.tests;
-    let answer = found.answer;
-    if let Walk::Fault(x) = answer {
-        return refused(x);
-    }
-    let at = i + 1 + 4 * (t as usize);
-    let o = match records::field_at(b, at, 1, 33, 4) {
-        Field::Value(v) => v,
-        Field::Fault(x) => return refused(x),
-    };
-    let body = operations_at(b, at + 1, h, p, tests, o);
-    let operations = body.operations;
-    let ended = body.answer;
-    if let Walk::Fault(x) = ended {
-        return refused(x);
-    }
-    if at + 1 + 4 * (o as usize) < b.len() {
-        return refused(3);
-    }
-    CommandRead {
-        answer: Walk::Whole,
-        command: Command {
-            parameters: p,
-            tests,
-            operations,
-        },
-    }
-}
-
-fn command_of(b: &[u8], h: Head) -> CommandRead
-    ensures { λ r. ⌜ r ≡ asCommand (whole (command h) (now (b .entry))) ⌝ }
-{
-    let k = match records::field_at(b, 0, 1, 9, 4) {
-        Field::Value(v) => v,
-        Field::Fault(x) => return refused(x),
-    };
-    let found = types_at(b, 1, h, k);
-    let parameters = found.parameters;
-    let answer = found.answer;
-    if let Walk::Fault(x) = answer {
-        return refused(x);
-    }
-    command_from(b, 1 + (k as usize), h, parameters)
-}
-
-fn refused_at(number: u8, at: usize) -> CommandAnswer
-    ensures { λ r. ⌜ r ≡ asCommandAt (fault (record { number = number; at = at })) ⌝ }
-{
-    CommandAnswer {
-        answer: Reading::Refused { number, at },
-        command: no_command(),
-    }
-}
-
-fn passed_up(found: RecordAnswer) -> CommandAnswer
-    ensures { λ r. ⌜ r ≡ asCommandAt (refusalOf found) ⌝ }
+fn passed_up_head(found: RecordAnswer) -> HeadAt
+    ensures { λ r. ⌜ r ≡ asHeadAt (refusalOf found) ⌝ }
 {
     match found {
-        RecordAnswer::Refused { number, at } => refused_at(number, at),
+        RecordAnswer::Refused { number, at } => HeadAt::Refused { number, at },
         RecordAnswer::Record {
             kind: _,
             start: _,
             len: _,
-        } => refused_at(0, 0),
+        } => HeadAt::Refused { number: 0, at: 0 },
     }
 }
 
-// The command's record at a position.
-fn read_command(s: &[u8], at: usize, h: Head) -> CommandAnswer
-    ensures { λ r. ⌜ r ≡ asCommandAt (inRecord (now (s .entry)) 4 (λ kind. command h) at) ⌝ }
+// The head's record at a position.
+pub(crate) fn read_head(s: &[u8], at: usize) -> HeadAt
+    ensures { λ r. ⌜ r ≡ readHead (now (s .entry)) at ⌝ }
 {
-    let found = records::record_at(s, at, Kinds(4));
+    let found = records::record_at(s, at, Kinds(2));
     let RecordAnswer::Record {
         kind: _,
         start,
         len,
     } = found
     else {
-        return passed_up(found);
+        return passed_up_head(found);
     };
-    let read = command_of(records::body(s, start, len), h);
-    let answer = read.answer;
-    let command = read.command;
-    if let Walk::Fault(x) = answer {
-        return refused_at(x, at);
-    }
-    CommandAnswer {
-        answer: Reading::Done { next: start + len },
-        command,
+    match head_of(records::body(s, start, len)) {
+        HeadAnswer::Good(head) => HeadAt::Good {
+            head,
+            next: start + len,
+        },
+        HeadAnswer::Fault(number) => HeadAt::Refused { number, at },
     }
 }
+
+// ---- the commands
 
 fn none_at(number: u8, at: usize) -> CommandsAnswer
     ensures { λ r. ⌜ r ≡ asCommandsAt (fault (record { number = number; at = at })) ⌝ }
@@ -365,7 +97,7 @@ fn read_commands(s: &[u8], at: usize, h: Head) -> CommandsAnswer
     }
 }
 
-// ---- a scheme
+// ---- the scheme
 
 fn refused_scheme(number: u8, at: usize, table: Scheme) -> SchemeAnswer
     ensures { λ r. ⌜ r ≡ asScheme table (fault (record { number = number; at = at })) ⌝ }
@@ -376,48 +108,30 @@ fn refused_scheme(number: u8, at: usize, table: Scheme) -> SchemeAnswer
     }
 }
 
-fn passed_up_scheme(found: RecordAnswer, table: Scheme) -> SchemeAnswer
-    ensures { λ r. ⌜ r ≡ asScheme table (refusalOf found) ⌝ }
+// The commands behind the head that was found, and the end; where there is a refusal, the table comes back as it was handed in.
+pub(crate) fn read_rest(s: &[u8], found: HeadAt, table: Scheme) -> SchemeAnswer
+    ensures { λ r. ⌜ r ≡ readRest (now (s .entry)) found table ⌝ }
 {
     match found {
-        RecordAnswer::Refused { number, at } => refused_scheme(number, at, table),
-        RecordAnswer::Record {
-            kind: _,
-            start: _,
-            len: _,
-        } => refused_scheme(0, 0, table),
-    }
-}
-
-// The whole of an input as a scheme; where it is refused, the table comes back as it was handed in.
-pub fn read_scheme(s: &[u8], table: Scheme) -> SchemeAnswer
-    ensures { λ r. ⌜ r ≡ readScheme (now (s .entry)) table ⌝ }
-{
-    let found = records::record_at(s, 0, Kinds(2));
-    let RecordAnswer::Record {
-        kind: _,
-        start,
-        len,
-    } = found
-    else {
-        return passed_up_scheme(found, table);
-    };
-    let head = match head_of(records::body(s, start, len)) {
-        HeadAnswer::Good(h) => h,
-        HeadAnswer::Fault(x) => return refused_scheme(x, 0, table),
-    };
-    let read = read_commands(s, start + len, head);
-    let answer = read.answer;
-    let commands = read.commands;
-    match answer {
-        Reading::Refused { number, at } => refused_scheme(number, at, table),
-        Reading::Done { next } => {
-            if next < s.len() {
-                return refused_scheme(8, next, table);
+        HeadAt::Refused { number, at } => refused_scheme(number, at, table),
+        HeadAt::Good { head, next: from } => {
+            if 32 < head.count {
+                return refused_scheme(4, from, table);
             }
-            SchemeAnswer {
-                answer: Reading::Done { next },
-                scheme: Scheme { head, commands },
+            let read = read_commands(s, from, head);
+            let answer = read.answer;
+            let commands = read.commands;
+            match answer {
+                Reading::Refused { number, at } => refused_scheme(number, at, table),
+                Reading::Done { next } => {
+                    if next != s.len() {
+                        return refused_scheme(8, next, table);
+                    }
+                    SchemeAnswer {
+                        answer: Reading::Done { next },
+                        scheme: Scheme { head, commands },
+                    }
+                }
             }
         }
     }

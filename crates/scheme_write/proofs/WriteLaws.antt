@@ -8,7 +8,7 @@ use mathlib.Core.Bool.{Bool, true, false, cond}
 use mathlib.Core.List.{List, [], _∷_, _++_}
 use lib.Dec.{T, eqb→eq}
 use lib.ListN.{length, take, drop, getD, set, length-append, length-take, drop-of-length-le}
-use lib.Seq.{sets, length-sets, drop-cons, getD-take, length-take-le}
+use lib.Seq.{sets, length-sets, getD-take, length-take-le}
 use mir.Val.{boolByte}
 use borrow.Author.Tests.{le-leb}
 use Rattle.model.specs.Check.{all}
@@ -21,6 +21,7 @@ use Rattle.model.specs.declared.Head.{Head}
 use Rattle.model.specs.declared.Scheme.{Scheme}
 use Rattle.model.proofs.Bools.{and-left, and-right}
 use Rattle.model.proofs.Form.{all-at}
+use Rattle.accepted.proofs.Walks.{turn-used}
 use Rattle.records.specs.Bytes.{littleEndian, recordBytes}
 use Rattle.records.specs.Writing.{placed, writeBytes}
 use Rattle.records.specs.declared.Writing.{Writing}
@@ -37,10 +38,7 @@ use Rattle.scheme_bytes.proofs.RoundTrips.{accepted-parts}
 module _ {A : Type 0} (f : A → List ℕ) (xs : List A) (n j : ℕ) where
   pub each-one : (d : A) → j < n → n ≤ length xs →
       eachBytes f (drop j (take n xs)) ≡ f (getD xs j d) ++ eachBytes f (drop (j + 1) (take n xs))
-  each-one d h k =
-      let e : length (take n xs) ≡ n = length-take-le n xs k in
-      let l : j < length (take n xs) = omega arith in
-      rw (drop-cons (take n xs) j d l, getD-take n xs j d h, add-one j)
+  each-one d h k = rw (turn-used xs n k j d h)
 
   pub each-none : n ≤ j → eachBytes f (drop j (take n xs)) ≡ []
   each-none h = let e : drop j (take n xs) ≡ [] = drop-of-length-le (take n xs) {i = j} (omega (arith, length-take n xs)) in rw e

@@ -11,10 +11,9 @@ use model::Test;
 use model::Tests;
 use records::Writing;
 ghost use mathlib.Core.Path.{_≡_};
-ghost use mathlib.Core.Bool.{cond};
 ghost use mathlib.Core.List.{List};
 ghost use Prim.Native.Nat.{ℕ, _+_, _*_, _≤_, _<_};
-ghost use lib.ListN.{length, take};
+ghost use lib.ListN.{length};
 ghost use lib.Seq.{sets};
 ghost use lib.Dec.{T};
 ghost use Rattle.model.specs.Accepted.{acceptedScheme};
@@ -22,7 +21,7 @@ ghost use Rattle.model.specs.Scheme.{commandsOf};
 ghost use Rattle.records.specs.Bytes.{recordBytes};
 ghost use Rattle.records.specs.Writing.{placed};
 ghost use Rattle.accepted.specs.Answers.{typesOf, listOf, bodyOf};
-ghost use Rattle.scheme_bytes.specs.Write.{headBytes, typeBytes, testBytes, operationBytes, codeNumber, eachBytes, commandBytes, schemeBytes, writeScheme, Small};
+ghost use Rattle.scheme_bytes.specs.Write.{headBytes, typeBytes, testBytes, operationBytes, codeNumber, eachBytes, commandBytes, writeScheme, Small};
 
 fn code_number(code: Code) -> u8
     ensures { λ r. ⌜ r ≡ codeNumber code ⌝ }

@@ -7,11 +7,10 @@ use mathlib.Core.Bool.{Bool, true, false, not, cond, _||_}
 use mathlib.Core.List.{List, [], _∷_, _++_}
 use native.Mathlib.Decide.{ℕ-discrete}
 use native.Mathlib.Nat.{zero-add, add-assoc, zero-mul}
-use native.Mathlib.Numerals.{add-one}
 use native.Mathlib.Omega.{arith}
 use lib.Dec.{T, eqb}
-use lib.ListN.{length, take, drop, getD, drop-of-length-le, length-drop, take-append-drop}
-use lib.Seq.{drop-cons, drop-drop}
+use lib.ListN.{length, take, drop, getD, length-drop, take-append-drop}
+use lib.Seq.{drop-drop}
 use borrow.Author.Tests.{eq-eqb, ne-eqb, eqb-true, eqb-false}
 use Rattle.rights.specs.Sets.{has, countTo, countRights}
 use Rattle.rights.proofs.Digits.{has-zero}
@@ -19,8 +18,9 @@ use Rattle.model.specs.Papers.{countIds}
 use Rattle.model.specs.Seats.{among, known}
 use Rattle.model.specs.Accepted.{apart}
 use Rattle.model.specs.declared.Things.{Things}
-use Rattle.model.proofs.Bools.{is-false, and-right, eqb-not}
+use Rattle.model.proofs.Bools.{is-false, and-right, eqb-not, one-mono}
 use Rattle.model.proofs.HeldLaws.{first-apart}
+use Rattle.accepted.proofs.Walks.{turn, ended}
 use Rattle.totals.specs.Totals.{sumIds, filled, sumOf}
 
 -- ---- what is counted of one cell
@@ -42,14 +42,10 @@ pub rights-none : countRights 0 ≡ 0
 unfolding countRights
 rights-none = count-none 64
 
-one-le : (b : Bool) → cond b 1 0 ≤ 1
-one-le true = omega arith
-one-le false = omega arith
-
 count-le : (k set : ℕ) → countTo k set ≤ k
 unfolding countTo
 count-le zero set = omega arith
-count-le (suc k) set = omega (arith, count-le k set, one-le (has set k))
+count-le (suc k) set = omega (arith, count-le k set, one-mono (has set k) true (λ t. tt))
 
 pub rights-le : (set : ℕ) → countRights set ≤ 64
 unfolding countRights
@@ -59,11 +55,11 @@ rights-le set = count-le 64 set
 module _ (f : ℕ → ℕ) (l : List ℕ) (n : ℕ) (full : length l ≡ n) (i : ℕ) where
   pub sum-turn : i < n → sumOf f (drop i l) ≡ f (getD l i 0) + sumOf f (drop (i + 1) l)
   unfolding sumOf
-  sum-turn h = let k : i < length l = omega arith in rw (add-one i, drop-cons l i 0 k)
+  sum-turn h = rw (turn l n full i 0 h)
 
   pub sum-end : n ≤ i → sumOf f (drop i l) ≡ 0
   unfolding sumOf
-  sum-end h = rw (drop-of-length-le l {i = i} (omega arith))
+  sum-end h = rw (ended l n full i h)
 
 -- ---- two lists whose elements give the same, place by place; and one against the rows of another
 module _ (f : ℕ → ℕ) where

@@ -3,7 +3,6 @@
 use Prim.Native.Nat.{ℕ, _+_, _*_, _≤_, _<_}
 use mathlib.Core.Path.{_≡_, refl, sym, ap, _∙_}
 use mathlib.Core.Bool.{Bool, true, false, not, cond, _&&_, and-true, and-false}
-use mathlib.Core.Option.{none, some}
 use native.Mathlib.Omega.{arith}
 use lib.Dec.{T, eqb}
 use lib.ListN.{length, take, drop, getD, length-drop}
@@ -12,25 +11,17 @@ use borrow.Author.Tests.{eqb-false}
 use Rattle.rights.specs.Sets.{countRights}
 use Rattle.model.specs.Check.{isSome}
 use Rattle.model.specs.Papers.{howMany}
-use Rattle.model.specs.Seats.{Matrix, among, known, seat, thingAt, place, cell, noType, standsFor}
+use Rattle.model.specs.Seats.{Matrix, among, known, thingAt, place, cell, standsFor}
 use Rattle.model.specs.Accepted.{standing, acceptedScheme, acceptedMatrix}
 use Rattle.model.specs.declared.Head.{Head}
 use Rattle.model.specs.declared.Things.{Things}
 use Rattle.model.proofs.Bools.{is-true}
 use Rattle.model.proofs.Held.{Held}
 use Rattle.model.proofs.HeldLaws.{held, ids-apart}
-use Rattle.model.proofs.Find.{among-get, seat-at}
+use Rattle.model.proofs.Find.{is-known, among-get, seat-at}
 use Rattle.totals.specs.Totals.{sumIds, overCells, filled, paperTotals, sumOf, memoryTotals, totalsOf}
 use Rattle.totals.specs.Promises.{TrueTotals}
 use Rattle.totals.proofs.Sums.{filled-none, rights-none, sum-along, sum-rows, sum-same, sum-none, count-sum, sum-ids}
-
-is-known : (th : Things) (x : ℕ) → isSome (thingAt th x) ≡ known th x
-unfolding isSome thingAt
-is-known th x = go (known th x)
-  where
-    go : (b : Bool) → isSome (cond b (some (getD (th .types) (seat th x) noType)) none) ≡ b
-    go true = refl
-    go false = refl
 
 module _ (s : Head) (m : Matrix) (ok : Held s m) where
   abbrev th : Things

@@ -8,7 +8,6 @@ use model::Scheme;
 use model::Things;
 use rights::RightSet;
 ghost use mathlib.Core.Path.{_≡_};
-ghost use Prim.Native.Nat.{ℕ};
 ghost use lib.ListN.{length};
 ghost use Rattle.rights.specs.Sets.{countRights};
 ghost use Rattle.totals.specs.Totals.{filled, sumOf, totalsOf};

@@ -5,10 +5,9 @@ use mathlib.Core.Bool.{true, _&&_}
 use mathlib.Core.Logic.{⊎-elim}
 use lib.ListN.{drop}
 use borrow.Author.Needs.{needs}
-use borrow.Author.Tests.{eq-eqb, ne-eqb, not-true, not-false}
-use Rattle.rights.specs.Sets.{within}
+use borrow.Author.Tests.{not-true, not-false}
 use Rattle.model.specs.Accepted.{acceptedPlaces}
-use Rattle.accepted.proofs.MatrixLaws.{placeFine, places-turn, places-end}
+use Rattle.accepted.proofs.MatrixLaws.{placeFine, place-empty, place-bare, place-stands, places-turn, places-end}
 use Rattle.accepted.proofs.matrix.places_accepted.Statement.{statement}
 use Rattle.accepted.proofs.matrix.places_accepted.Tie as tie
 
@@ -41,16 +40,17 @@ turned c =
     c .before .loop .inv .1 ∙ places-turn (a .h) (a .th) (a .cells .now) (search needs) _ (search needs)
 
 returns : tie.Need-returns Inv-loop μ-loop
-unfolding within
 returns c =
     let t = c .before .before in
-    sym (turned (t .before .before .before)
-    ∙ rw (sym (t .before .is-standing .ensures) ∙ t .if1 .taken, sym (c .before .within .ensures) ∙ not-true _ (c .if2 .taken)))
+    sym (turned (t .before .before)
+    ∙ rw (place-bare _ _ _ _ (sym (c .before .is-standing .ensures) ∙ not-true _ (c .if2 .taken)) (t .if1 .taken)))
 
 returns-2 : tie.Need-returns-2 Inv-loop μ-loop
 returns-2 c =
-    let t = c .before in
-    sym (turned (t .before .before .before) ∙ rw (sym (t .before .is-standing .ensures) ∙ t .if1 .left, ne-eqb _ _ (c .if3 .taken)))
+    let s = c .before .before in
+    sym (turned (s .before .before .before .before)
+    ∙ rw (place-stands _ _ _ _ (sym (s .before .is-standing .ensures) ∙ not-false _ (s .if2 .left)) _
+    (sym (c .before .within .ensures) ∙ not-true _ (c .if3 .taken))))
 
 add-k : tie.Need-add-k Inv-loop μ-loop
 add-k c = search needs
@@ -58,15 +58,17 @@ add-k c = search needs
 loop-less : tie.Need-loop-less Inv-loop μ-loop
 loop-less c = search needs
 
-fine : (c : tie.Joined1 Inv-loop μ-loop) → let s = c .before .before .before .before in let a = s .before .before .args in
+fine : (c : tie.Joined1 Inv-loop μ-loop) → let s = c .before .before .before in let a = s .before .before .args in
     placeFine (a .h) (a .th) (a .cells .now) (s .loop .k) ≡ true
-unfolding within
 fine c =
-    ⊎-elim (λ w. rw (sym (c .before .is-standing .ensures) ∙ w .0 .taken, sym (w .1 .ensures) ∙ not-false _ (w .2 .left)))
-    (λ w. rw (sym (c .before .is-standing .ensures) ∙ w .0 .left, eq-eqb _ _ (w .1 .left))) (c .if1 .came)
+    let s = c .before .before .before in
+    let a = s .before .before .args in
+    let l = a .cells .now in
+    ⊎-elim {C = placeFine (a .h) (a .th) l (s .loop .k) ≡ true} (λ w. place-stands _ _ l _ (sym (w .1 .ensures) ∙ not-false _ (w .2 .left)) _ (sym (w .3 .ensures) ∙ not-false _ (w .4 .left)))
+    (λ w. place-empty _ _ l _ (w .left)) (c .if1 .came)
 
 loop-again : tie.Need-loop-again Inv-loop μ-loop
-loop-again c = (search needs, turned (c .before .before .before) ∙ rw (fine c))
+loop-again c = (search needs, turned (c .before .before) ∙ rw (fine c))
 
 returns-3 : tie.Need-returns-3 Inv-loop μ-loop
 returns-3 c =
@@ -83,8 +85,8 @@ places-accepted-spec =
     mul-c
     shared-slice-read-c
     is-standing-requires
-    within-requires
     returns
+    within-requires
     returns-2
     add-k
     loop-less

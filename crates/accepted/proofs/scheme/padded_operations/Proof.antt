@@ -1,26 +1,23 @@
--- The walk over the operations behind those in use stops at the first that is not zero.
+-- The walk over the operations behind those in use carries along whether all were zero.
 use Prim.Native.Nat.{_-_}
-use mathlib.Core.Path.{sym, _∙_}
 use native.Mathlib.Omega.{arith}
 use borrow.Author.Needs.{needs}
-use borrow.Author.Tests.{not-true, not-false}
-use Rattle.model.specs.Check.{all}
 use Rattle.model.specs.Accepted.{zeroOperation, padded}
-use Rattle.accepted.proofs.Walks.{long, Walk, on, out, end, all-on, all-out, behind}
+use Rattle.accepted.proofs.Walks.{long, Carried, carried, arrived, behind}
 use Rattle.accepted.proofs.scheme.padded_operations.Statement.{statement}
 use Rattle.accepted.proofs.scheme.padded_operations.Tie as tie
 
 abbrev Inv-loop : tie.InvT-loop
-Inv-loop o i₀ i = Walk (λ j. all zeroOperation) (o .list) 32 (padded zeroOperation 32 i₀ (o .list)) i
+Inv-loop o zero₀ i₀ zero i = Carried zeroOperation (o .list) 32 (padded zeroOperation 32 i₀ (o .list)) zero i
 
 abbrev μ-loop : tie.MeasureT-loop
-μ-loop o i₀ i = 32 - i
+μ-loop o zero₀ i₀ zero i = 32 - i
 
 cast-i : tie.Need-cast-i Inv-loop μ-loop
 cast-i c = search needs
 
 loop-holds : tie.Need-loop-holds Inv-loop μ-loop
-loop-holds c = behind _ 32 _ _ (search (needs, long))
+loop-holds c = record { walk = behind _ 32 _ _ (search (needs, long)) }
 
 mul-one : tie.Need-mul-one Inv-loop μ-loop
 mul-one c = search needs
@@ -31,11 +28,6 @@ element-copy-out-one c = search needs
 zero-operation-requires : tie.Need-zero-operation-requires Inv-loop μ-loop
 zero-operation-requires c κs = search needs
 
-returns : tie.Need-returns Inv-loop μ-loop
-returns c =
-    let e = sym (c .before .zero-operation .ensures) ∙ not-true _ (c .if1 .taken) in
-    out (c .before .before .before .before .loop .inv) _ _ (omega arith) (all-out _ _ e)
-
 add-i : tie.Need-add-i Inv-loop μ-loop
 add-i c = search needs
 
@@ -43,13 +35,10 @@ loop-less : tie.Need-loop-less Inv-loop μ-loop
 loop-less c = search needs
 
 loop-again : tie.Need-loop-again Inv-loop μ-loop
-loop-again c =
-    let e = sym (c .before .zero-operation .ensures) ∙ not-false _ (c .if1 .left) in
-    on (c .before .before .before .before .loop .inv) _ (omega arith) (all-on _ _ e)
+loop-again c = carried (c .before .before .before .loop .inv) _ _ (omega arith) (c .zero-operation .ensures)
 
-returns-2 : tie.Need-returns-2 Inv-loop μ-loop
-unfolding all
-returns-2 c = end (c .before .loop .inv) (omega arith)
+returns : tie.Need-returns Inv-loop μ-loop
+returns c = arrived (c .before .loop .inv) (omega arith)
 
 pub padded-operations-spec : {M : Type 1} → statement M
 padded-operations-spec =
@@ -62,8 +51,7 @@ padded-operations-spec =
     mul-one
     element-copy-out-one
     zero-operation-requires
-    returns
     add-i
     loop-less
     loop-again
-    returns-2)
+    returns)

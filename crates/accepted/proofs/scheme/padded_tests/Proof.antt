@@ -1,26 +1,23 @@
--- The walk over the tests behind those in use stops at the first that is not zero.
+-- The walk over the tests behind those in use carries along whether all were zero.
 use Prim.Native.Nat.{_-_}
-use mathlib.Core.Path.{sym, _∙_}
 use native.Mathlib.Omega.{arith}
 use borrow.Author.Needs.{needs}
-use borrow.Author.Tests.{not-true, not-false}
-use Rattle.model.specs.Check.{all}
 use Rattle.model.specs.Accepted.{zeroTest, padded}
-use Rattle.accepted.proofs.Walks.{long, Walk, on, out, end, all-on, all-out, behind}
+use Rattle.accepted.proofs.Walks.{long, Carried, carried, arrived, behind}
 use Rattle.accepted.proofs.scheme.padded_tests.Statement.{statement}
 use Rattle.accepted.proofs.scheme.padded_tests.Tie as tie
 
 abbrev Inv-loop : tie.InvT-loop
-Inv-loop t i₀ i = Walk (λ j. all zeroTest) (t .list) 16 (padded zeroTest 16 i₀ (t .list)) i
+Inv-loop t zero₀ i₀ zero i = Carried zeroTest (t .list) 16 (padded zeroTest 16 i₀ (t .list)) zero i
 
 abbrev μ-loop : tie.MeasureT-loop
-μ-loop t i₀ i = 16 - i
+μ-loop t zero₀ i₀ zero i = 16 - i
 
 cast-i : tie.Need-cast-i Inv-loop μ-loop
 cast-i c = search needs
 
 loop-holds : tie.Need-loop-holds Inv-loop μ-loop
-loop-holds c = behind _ 16 _ _ (search (needs, long))
+loop-holds c = record { walk = behind _ 16 _ _ (search (needs, long)) }
 
 mul-one : tie.Need-mul-one Inv-loop μ-loop
 mul-one c = search needs
@@ -31,11 +28,6 @@ element-copy-out-one c = search needs
 zero-test-requires : tie.Need-zero-test-requires Inv-loop μ-loop
 zero-test-requires c κs = search needs
 
-returns : tie.Need-returns Inv-loop μ-loop
-returns c =
-    let e = sym (c .before .zero-test .ensures) ∙ not-true _ (c .if1 .taken) in
-    out (c .before .before .before .before .loop .inv) _ _ (omega arith) (all-out _ _ e)
-
 add-i : tie.Need-add-i Inv-loop μ-loop
 add-i c = search needs
 
@@ -43,13 +35,10 @@ loop-less : tie.Need-loop-less Inv-loop μ-loop
 loop-less c = search needs
 
 loop-again : tie.Need-loop-again Inv-loop μ-loop
-loop-again c =
-    let e = sym (c .before .zero-test .ensures) ∙ not-false _ (c .if1 .left) in
-    on (c .before .before .before .before .loop .inv) _ (omega arith) (all-on _ _ e)
+loop-again c = carried (c .before .before .before .loop .inv) _ _ (omega arith) (c .zero-test .ensures)
 
-returns-2 : tie.Need-returns-2 Inv-loop μ-loop
-unfolding all
-returns-2 c = end (c .before .loop .inv) (omega arith)
+returns : tie.Need-returns Inv-loop μ-loop
+returns c = arrived (c .before .loop .inv) (omega arith)
 
 pub padded-tests-spec : {M : Type 1} → statement M
 padded-tests-spec =
@@ -62,8 +51,7 @@ padded-tests-spec =
     mul-one
     element-copy-out-one
     zero-test-requires
-    returns
     add-i
     loop-less
     loop-again
-    returns-2)
+    returns)

@@ -1,7 +1,7 @@
 -- The cells are copied and converted; the converted matrix is accepted, so nothing but room can refuse its writing.
 use borrow.Author.Needs.{needs}
 use Rattle.conversion.proofs.Converted.{converts}
-use Rattle.convert.proofs.AnswerLaws.{matrix-27, matrix-refused, matrix-done}
+use Rattle.convert.proofs.AnswerLaws.{matrix-27, rights-few, matrix-refused, matrix-done}
 use Rattle.convert.proofs.bytes.convert_matrix.Statement.{statement}
 use Rattle.convert.proofs.bytes.convert_matrix.Tie as tie
 
@@ -26,19 +26,22 @@ enum-known-x c = search needs
 enum-told : tie.Need-enum-told
 enum-told c = search needs
 
-converted-scheme-requires : tie.Need-converted-scheme-requires
-converted-scheme-requires c κs = search needs
+converted-head-requires : tie.Need-converted-head-requires
+converted-head-requires c κs =
+    let t = c .before in
+    let k = t .before .before .before in
+    rights-few _ _ _ (k .before .before .before .copy-cells .ensures) _ _ (k .converted-cells .ensures) (t .enum-told .given .1)
 
-slice-aggregate-write-matrix : tie.Need-slice-aggregate-write-matrix
-slice-aggregate-write-matrix c = search needs
+slice-aggregate-write-matrix-by-head : tie.Need-slice-aggregate-write-matrix-by-head
+slice-aggregate-write-matrix-by-head c = search needs
 
-write-matrix-requires : tie.Need-write-matrix-requires
-write-matrix-requires c κs = search needs
+write-matrix-by-head-requires : tie.Need-write-matrix-by-head-requires
+write-matrix-by-head-requires c κs = search needs
 
 returns-2 : tie.Need-returns-2
 returns-2 c =
     let k = c .before .before .before .before in
-    matrix-refused _ _ _ _ (k .before .before .before .copy-cells .ensures) _ _ (k .converted-cells .ensures) _ (c .before .x .given .1)
+    matrix-refused _ _ _ (k .before .before .before .copy-cells .ensures) _ _ (k .converted-cells .ensures) _ _ (c .before .x .given .1)
 
 same-length : tie.Need-same-length
 same-length c = search needs
@@ -46,11 +49,11 @@ same-length c = search needs
 returns-3 : tie.Need-returns-3
 returns-3 c =
     let w = c .before .before in
-    let r = w .before .before .before .before in
-    let t = r .before in
+    let h = w .before .before .before in
+    let t = h .before .before in
     let k = t .before .before .before in
-    matrix-done _ _ _ _ (k .before .before .before .copy-cells .ensures) _ _ (k .converted-cells .ensures) converts (t .enum-told .given .1) _
-    (r .converted-scheme .ensures) _ _ (w .write-matrix .ensures)
+    matrix-done _ _ _ (k .before .before .before .copy-cells .ensures) _ _ (k .converted-cells .ensures) _ converts (t .enum-told .given .1) _
+    (h .converted-head .ensures) _ _ (w .write-matrix-by-head .ensures)
 
 pub convert-matrix-spec : {M : Type 1} → statement M
 convert-matrix-spec =
@@ -63,9 +66,9 @@ convert-matrix-spec =
     converted-cells-requires
     enum-known-x
     enum-told
-    converted-scheme-requires
-    slice-aggregate-write-matrix
-    write-matrix-requires
+    converted-head-requires
+    slice-aggregate-write-matrix-by-head
+    write-matrix-by-head-requires
     returns-2
     same-length
     returns-3)

@@ -50,16 +50,13 @@ loop-again c =
     let (m, h, v) = s .loop .inv in
     (search needs, h, converted-on _ (s .before .before .before .before .pre .0) v _ _ (search needs) (c .convert-command .ensures))
 
-mul-rights : tie.Need-mul-rights Inv-loop μ-loop
-mul-rights c =
-    let p = c .before .before .before .before .before .before .pre in
-    let h = few-rights _ (p .1) in
-    search needs
+converted-head-requires : tie.Need-converted-head-requires Inv-loop μ-loop
+converted-head-requires c κs = few-rights _ (c .before .before .before .before .before .pre .1)
 
 returns : tie.Need-returns Inv-loop μ-loop
 returns c =
     let s = c .before .before in
-    converted-all _ (s .before .before .before .before .pre .0) (s .loop .inv .2) (omega arith)
+    converted-all _ (s .before .before .before .before .pre .0) (s .loop .inv .2) (omega arith) _ (c .converted-head .ensures)
 
 pub convert-all-spec : {M : Type 1} → statement M
 convert-all-spec =
@@ -77,5 +74,5 @@ convert-all-spec =
     add-j
     loop-less
     loop-again
-    mul-rights
+    converted-head-requires
     returns)

@@ -1,3 +1,5 @@
+-- `Right::partner` meets its contract: the sum, or the greatest number of a byte.
+-- Assumes nothing.
 use Rattle.rights.specs.Sets.{partner}
 use borrow.Author.Needs.{needs}
 use Rattle.rights.proofs.Right.partner.Statement.{statement}

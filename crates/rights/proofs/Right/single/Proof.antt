@@ -1,3 +1,5 @@
+-- `Right::single` meets its contract: a shifted 1, and 0 from 64 on.
+-- Assumes nothing.
 use Rattle.rights.proofs.Words.{single-word, single-none}
 use borrow.Author.Needs.{needs}
 use Rattle.rights.proofs.Right.single.Statement.{statement}

@@ -1,3 +1,5 @@
+-- `RightSet::all` meets its contract: a shifted 1 less 1, and from 64 on a word of ones.
+-- Assumes nothing.
 use Rattle.rights.proofs.Words.{shifted-pos, all-word, all-full}
 use borrow.Author.Needs.{needs}
 use Rattle.rights.proofs.RightSet.all.Statement.{statement}

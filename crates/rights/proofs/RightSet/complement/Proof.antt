@@ -1,3 +1,5 @@
+-- `RightSet::complement` meets its contract: the rights below n that `|` adds, and `^` leaves.
+-- Assumes nothing.
 use Rattle.rights.proofs.Words.{complement-word}
 use borrow.Author.Needs.{needs}
 use Rattle.rights.proofs.RightSet.complement.Statement.{statement}

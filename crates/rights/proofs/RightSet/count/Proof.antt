@@ -1,3 +1,5 @@
+-- `RightSet::count` meets its contract: a word's ones are the set's rights.
+-- Assumes nothing.
 use borrow.Author.Needs.{needs}
 use Rattle.rights.proofs.Words.{count-word}
 use Rattle.rights.proofs.RightSet.count.Statement.{statement}

@@ -1,3 +1,5 @@
+-- `RightSet::delete` meets its contract: `|` with the right's word, then `^`.
+-- Assumes nothing.
 use Rattle.rights.proofs.Words.{delete-word}
 use borrow.Author.Needs.{needs}
 use Rattle.rights.proofs.RightSet.delete.Statement.{statement}

@@ -1,3 +1,5 @@
+-- `RightSet::enter` meets its contract: `|` with the right's word.
+-- Assumes nothing.
 use Rattle.rights.proofs.Words.{enter-word}
 use borrow.Author.Needs.{needs}
 use Rattle.rights.proofs.RightSet.enter.Statement.{statement}

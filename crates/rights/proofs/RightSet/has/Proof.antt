@@ -1,3 +1,5 @@
+-- `RightSet::has` meets its contract: below 64 it is the binary digit, from 64 on a word has none.
+-- Assumes nothing.
 use mathlib.Core.Path.{sym}
 use Rattle.rights.specs.Sets.{has}
 use Rattle.rights.proofs.Digits.{has-above}

@@ -1,3 +1,5 @@
+-- `RightSet::within` meets its contract: nothing stands at n or above, and a word has no digit from 64 on.
+-- Assumes nothing.
 use Rattle.rights.proofs.Words.{within-word, within-full}
 use borrow.Author.Needs.{needs}
 use Rattle.rights.proofs.RightSet.within.Statement.{statement}

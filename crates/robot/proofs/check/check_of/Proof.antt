@@ -1,4 +1,4 @@
--- A matrix is read against a scheme; its reading is told.
+-- A matrix is read against a scheme's head; its reading is told.
 -- Assumes nothing.
 use Rattle.robot.specs.Library.{gives, call, notRead, checkAgainst}
 use Rattle.robot.proofs.CallLaws.{matrix-read, matrix-refused}
@@ -9,11 +9,11 @@ use Rattle.robot.proofs.check.check_of.Tie as tie
 no-things-requires : tie.Need-no-things-requires
 no-things-requires c κs = search needs
 
-slice-aggregate-read-matrix : tie.Need-slice-aggregate-read-matrix
-slice-aggregate-read-matrix c = search needs
+slice-aggregate-read-matrix-by-head : tie.Need-slice-aggregate-read-matrix-by-head
+slice-aggregate-read-matrix-by-head c = search needs
 
-read-matrix-requires : tie.Need-read-matrix-requires
-read-matrix-requires c κs = search needs
+read-matrix-by-head-requires : tie.Need-read-matrix-by-head-requires
+read-matrix-by-head-requires c κs = search needs
 
 enum-known-answer : tie.Need-enum-known-answer
 enum-known-answer c = search needs
@@ -32,30 +32,30 @@ same-length c = search needs
 
 returns : tie.Need-returns
 unfolding checkAgainst
-returns c =
+returns c = λ s ok its.
     let t = c .before .before in
     let a = t .before .before .before in
     let r = a .before .before .before in
-    matrix-read (gives _) notRead (λ m k. call 0 0 k 0 0) _ _ _ (r .before .before .no-things .ensures) _ _ (r .read-matrix .ensures) _ (a .answer .given .1) (t .tell .ensures)
+    matrix-read (gives _) notRead (λ m k. call 0 0 k 0 0) _ s ok _ its _ (r .before .before .no-things .ensures) _ _ (r .read-matrix-by-head .ensures) _ (a .answer .given .1) (t .tell .ensures)
 
 same-length-2 : tie.Need-same-length-2
 same-length-2 c = search needs
 
 returns-2 : tie.Need-returns-2
 unfolding checkAgainst
-returns-2 c =
+returns-2 c = λ s ok its.
     let t = c .before .before in
     let a = t .before .before .before in
     let r = a .before .before .before in
-    matrix-refused (gives _) notRead (λ m k. call 0 0 k 0 0) _ _ _ (r .before .before .no-things .ensures) _ _ (r .read-matrix .ensures) _ _ (a .answer2 .given .1) (t .tell2 .ensures)
+    matrix-refused (gives _) notRead (λ m k. call 0 0 k 0 0) _ s ok _ its _ (r .before .before .no-things .ensures) _ _ (r .read-matrix-by-head .ensures) _ _ (a .answer2 .given .1) (t .tell2 .ensures)
 
 pub check-of-spec : {M : Type 1} → statement M
 check-of-spec =
     tie.close
     (tie.spec
     no-things-requires
-    slice-aggregate-read-matrix
-    read-matrix-requires
+    slice-aggregate-read-matrix-by-head
+    read-matrix-by-head-requires
     enum-known-answer
     tell-requires
     enum-known-answer-2

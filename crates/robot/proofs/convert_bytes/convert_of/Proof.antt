@@ -1,5 +1,6 @@
 -- A matrix is read against a scheme, then its converted bytes are written.
 -- Assumes nothing.
+use mathlib.Core.Path.{refl}
 use Rattle.robot.specs.Library.{givesWrote, notConverted, wrote, convertAgainst}
 use Rattle.robot.proofs.CallLaws.{matrix-read, matrix-refused, not-converted, told-wrote}
 use Rattle.convert.specs.Convert.{convertMatrixInto}
@@ -10,11 +11,11 @@ use Rattle.robot.proofs.convert_bytes.convert_of.Tie as tie
 no-things-requires : tie.Need-no-things-requires
 no-things-requires c κs = search needs
 
-slice-aggregate-read-matrix : tie.Need-slice-aggregate-read-matrix
-slice-aggregate-read-matrix c = search needs
+slice-aggregate-read-matrix-by-head : tie.Need-slice-aggregate-read-matrix-by-head
+slice-aggregate-read-matrix-by-head c = search needs
 
-read-matrix-requires : tie.Need-read-matrix-requires
-read-matrix-requires c κs = search needs
+read-matrix-by-head-requires : tie.Need-read-matrix-by-head-requires
+read-matrix-by-head-requires c κs = search needs
 
 enum-told : tie.Need-enum-told
 enum-told c = search needs
@@ -47,7 +48,7 @@ returns c =
     let w = t .before .before .before .before in
     let a = w .before .before .before in
     let r = a .before .before .before .before in
-    matrix-read (givesWrote _) (notConverted _) (λ m k. wrote 1 (convertMatrixInto _ _ m)) _ _ _ (r .before .before .no-things .ensures) _ _ (r .read-matrix .ensures) _ (a .enum-told .given .1)
+    matrix-read (givesWrote _) (notConverted _) (λ m k. wrote 1 (convertMatrixInto _ _ m)) _ _ (r .before .before .before .before .before .before .before .pre) _ refl _ (r .before .before .no-things .ensures) _ _ (r .read-matrix-by-head .ensures) _ (a .enum-told .given .1)
     (told-wrote _ _ _ 1 _ _ _ (w .convert-matrix .ensures) (t .tell-writing .ensures))
 
 same-length-3 : tie.Need-same-length-3
@@ -59,7 +60,7 @@ returns-2 c =
     let t = c .before .before in
     let a = t .before .before .before in
     let r = a .before .before .before .before in
-    matrix-refused (givesWrote _) (notConverted _) (λ m k. wrote 1 (convertMatrixInto _ _ m)) _ _ _ (r .before .before .no-things .ensures) _ _ (r .read-matrix .ensures) _ _ (a .answer .given .1)
+    matrix-refused (givesWrote _) (notConverted _) (λ m k. wrote 1 (convertMatrixInto _ _ m)) _ _ (r .before .before .before .before .before .before .before .pre) _ refl _ (r .before .before .no-things .ensures) _ _ (r .read-matrix-by-head .ensures) _ _ (a .answer .given .1)
     (not-converted _ _ _ _ _ _ _ (t .tell .ensures))
 
 pub convert-of-spec : {M : Type 1} → statement M
@@ -67,8 +68,8 @@ convert-of-spec =
     tie.close
     (tie.spec
     no-things-requires
-    slice-aggregate-read-matrix
-    read-matrix-requires
+    slice-aggregate-read-matrix-by-head
+    read-matrix-by-head-requires
     enum-told
     slice-aggregate-convert-matrix
     convert-matrix-requires

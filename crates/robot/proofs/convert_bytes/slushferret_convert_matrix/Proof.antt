@@ -1,7 +1,7 @@
 -- A scheme is read, then a matrix against it is converted.
 -- Assumes nothing.
 use Rattle.robot.specs.Library.{givesWrote, notConverted, convertAgainst, convertMatrixBytes}
-use Rattle.robot.proofs.CallLaws.{scheme-read, scheme-refused, not-converted}
+use Rattle.robot.proofs.CallLaws.{scheme-accepted, scheme-read, scheme-refused, not-converted}
 use borrow.Author.Needs.{needs}
 use Rattle.robot.proofs.convert_bytes.slushferret_convert_matrix.Statement.{statement}
 use Rattle.robot.proofs.convert_bytes.slushferret_convert_matrix.Tie as tie
@@ -13,7 +13,10 @@ enum-told : tie.Need-enum-told
 enum-told c = search needs
 
 convert-of-requires : tie.Need-convert-of-requires
-convert-of-requires c κs = search needs
+convert-of-requires c κs =
+    let a = c .before .before in
+    let r = a .before .before .before in
+    scheme-accepted _ (λ i. r .before .before .before .before .shared-slice-known .given i .fits) _ (r .scheme-of .ensures) _ (a .enum-told .given .1)
 
 enum-known-answer : tie.Need-enum-known-answer
 enum-known-answer c = search needs

@@ -68,6 +68,3 @@ slushferret-convert-scheme-spec =
     returns
     same-length-3
     returns-2)
-
-dummy : Type 1
-dummy = Type 0

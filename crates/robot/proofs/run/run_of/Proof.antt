@@ -1,8 +1,9 @@
 -- A matrix is read against a scheme; the run is tried first where the output might be too short.
 -- Assumes nothing.
 use mathlib.Core.Logic.{⊎-elim}
+use mathlib.Core.Path.{refl}
 use lib.Dec.{T}
-use Rattle.model.specs.Accepted.{acceptedScheme, acceptedMatrix}
+use Rattle.model.specs.Accepted.{acceptedMatrix}
 use Rattle.robot.specs.Library.{givesRan, notRun, runMatrix, runAgainst}
 use Rattle.robot.proofs.CallLaws.{matrix-read, matrix-refused, not-run}
 use Rattle.robot.proofs.RunLaws.{read-accepted, always-fits, answers-short, out-short, tried-fits}
@@ -10,14 +11,17 @@ use borrow.Author.Needs.{needs}
 use Rattle.robot.proofs.run.run_of.Statement.{statement}
 use Rattle.robot.proofs.run.run_of.Tie as tie
 
+abbrev start : tie.After-read-matrix-by-head → tie.Start
+start r = r .before .before .before .before .before .before .before .before .before
+
 no-things-requires : tie.Need-no-things-requires
 no-things-requires c κs = search needs
 
-slice-aggregate-read-matrix : tie.Need-slice-aggregate-read-matrix
-slice-aggregate-read-matrix c = search needs
+slice-aggregate-read-matrix-by-head : tie.Need-slice-aggregate-read-matrix-by-head
+slice-aggregate-read-matrix-by-head c = search needs
 
-read-matrix-requires : tie.Need-read-matrix-requires
-read-matrix-requires c κs = search needs
+read-matrix-by-head-requires : tie.Need-read-matrix-by-head-requires
+read-matrix-by-head-requires c κs = search needs
 
 enum-known-answer : tie.Need-enum-known-answer
 enum-known-answer c = search needs
@@ -34,23 +38,23 @@ returns c =
     let t = c .before .before in
     let a = t .before .before .before in
     let r = a .before .before .before .before in
-    matrix-refused (givesRan _) (notRun _ _) (λ m k. runMatrix _ m _ _ _) _ _ _ (r .before .before .no-things .ensures) _ _ (r .read-matrix .ensures) _ _ (a .answer .given .1)
+    matrix-refused (givesRan _) (notRun _ _) (λ m k. runMatrix _ m _ _ _) _ _ (start r .pre) _ refl _ (r .before .before .no-things .ensures) _ _ (r .read-matrix-by-head .ensures) _ _ (a .answer .given .1)
     (not-run _ _ _ _ _ _ _ _ (t .tell .ensures))
 
 enum-told : tie.Need-enum-told
 enum-told c = search needs
 
--- where a matrix was read, the scheme and it are accepted, and what follows the reading is what is left
-both-accepted : (c : tie.After-enum-told) →
+-- where a matrix was read, it is accepted, and what follows the reading is what is left
+matrix-accepted : (c : tie.After-enum-told) →
     let r = c .before .before .before .before in
-    T (acceptedScheme (r .before .before .before .before .before .before .before .before .args .s))
-    × T (acceptedMatrix (r .before .before .before .before .before .before .before .before .args .s .head) (record { things = r .read-matrix .result .things; cells = r .read-matrix .last .1 .1 .1 .0 }))
-both-accepted c =
+    T (acceptedMatrix (start r .args .s .head) (record { things = r .read-matrix-by-head .result .things; cells = r .read-matrix-by-head .last .1 .1 .1 .0 }))
+matrix-accepted c =
     let r = c .before .before .before .before in
-    read-accepted _ _ _ _ _ _ _ (λ i. r .before .before .before .before .before .before .before .shared-slice-known .given i .fits) (r .read-matrix .ensures) (c .enum-told .given .1)
+    read-accepted _ _ (start r .pre) _ _ _ _ _ (λ i. r .before .before .before .before .before .before .before .before .shared-slice-known .given i .fits)
+    (r .read-matrix-by-head .ensures) (c .enum-told .given .1)
 
 trial-of-requires : tie.Need-trial-of-requires
-trial-of-requires c κs = both-accepted (c .before)
+trial-of-requires c κs = (start (c .before .before .before .before .before) .pre, matrix-accepted (c .before))
 
 tell-requires-2 : tie.Need-tell-requires-2
 tell-requires-2 c κs = search needs
@@ -66,7 +70,7 @@ returns-2 c =
     let n = i .before .before in
     let a = n .before .before in
     let r = a .before .before .before .before in
-    matrix-read (givesRan _) (notRun _ _) (λ m k. runMatrix _ m _ _ _) _ _ _ (r .before .before .no-things .ensures) _ _ (r .read-matrix .ensures) _ (a .enum-told .given .1)
+    matrix-read (givesRan _) (notRun _ _) (λ m k. runMatrix _ m _ _ _) _ _ (start r .pre) _ refl _ (r .before .before .no-things .ensures) _ _ (r .read-matrix-by-head .ensures) _ (a .enum-told .given .1)
     (answers-short _ _ _ _ (n .trial-of .ensures) _ _ _ _ _ (i .if2 .taken) (t .tell2 .ensures))
 
 tell-requires-3 : tie.Need-tell-requires-3
@@ -84,7 +88,7 @@ returns-3 c =
     let n = i .before .before in
     let a = n .before .before in
     let r = a .before .before .before .before in
-    matrix-read (givesRan _) (notRun _ _) (λ m k. runMatrix _ m _ _ _) _ _ _ (r .before .before .no-things .ensures) _ _ (r .read-matrix .ensures) _ (a .enum-told .given .1)
+    matrix-read (givesRan _) (notRun _ _) (λ m k. runMatrix _ m _ _ _) _ _ (start r .pre) _ refl _ (r .before .before .no-things .ensures) _ _ (r .read-matrix-by-head .ensures) _ (a .enum-told .given .1)
     (out-short _ _ _ _ (n .trial-of .ensures) _ _ _ _ _ (i .if2 .left) (j .if3 .taken) (t .tell3 .ensures))
 
 slice-aggregate-run-on : tie.Need-slice-aggregate-run-on
@@ -93,7 +97,8 @@ slice-aggregate-run-on c = search needs
 run-on-requires : tie.Need-run-on-requires
 run-on-requires c κs =
     let j = c .before .before .before .before in
-    let (t, u) = both-accepted (j .before) in
+    let t = start (j .before .before .before .before .before) .pre in
+    let u = matrix-accepted (j .before) in
     (t, u, ⊎-elim (λ w. tried-fits _ _ _ _ (w .1 .ensures) _ (w .5 .left)) (λ w. always-fits _ t _ u _ _ (w .left)) (j .if1 .came))
 
 same-length-4 : tie.Need-same-length-4
@@ -111,7 +116,7 @@ returns-4 c =
     let t = c .before .before .before .before .before .before .before in
     let a = t .before .before .before .before .before .before in
     let r = a .before .before .before .before in
-    matrix-read (givesRan _) (notRun _ _) (λ m k. runMatrix _ m _ _ _) _ _ _ (r .before .before .no-things .ensures) _ _ (r .read-matrix .ensures) _ (a .enum-told .given .1)
+    matrix-read (givesRan _) (notRun _ _) (λ m k. runMatrix _ m _ _ _) _ _ (start r .pre) _ refl _ (r .before .before .no-things .ensures) _ _ (r .read-matrix-by-head .ensures) _ (a .enum-told .given .1)
     (t .run-on .ensures)
 
 pub run-of-spec : {M : Type 1} → statement M
@@ -119,8 +124,8 @@ run-of-spec =
     tie.close
     (tie.spec
     no-things-requires
-    slice-aggregate-read-matrix
-    read-matrix-requires
+    slice-aggregate-read-matrix-by-head
+    read-matrix-by-head-requires
     enum-known-answer
     tell-requires
     same-length

@@ -28,11 +28,11 @@ returns c =
     let t = c .before .before in
     let k = t .before .before in
     let r = k .before .before .before .before .before .before .before in
-    let s = r .before .before .before .before .before .before .before .before in
+    let s = r .before .before .before .before .before .before .before .before .before in
     run-short (s .args .s) (s .pre .0) _ (s .pre .1) _ _ _ _ _ (r .run-list .ensures) _ _ _ _ _ (k .enum-told .given .1) (t .tell-ended .ensures)
 
-write-matrix-requires : tie.Need-write-matrix-requires
-write-matrix-requires c κs = search needs
+write-matrix-by-head-requires : tie.Need-write-matrix-by-head-requires
+write-matrix-by-head-requires c κs = search needs
 
 next-of-requires : tie.Need-next-of-requires
 next-of-requires c κs = search needs
@@ -59,9 +59,9 @@ returns-2 c =
     let w = n .before .before .before in
     let k = w .before .before .before in
     let r = k .before .before .before .before .before .before in
-    let s = r .before .before .before .before .before .before .before .before in
+    let s = r .before .before .before .before .before .before .before .before .before in
     run-long (s .args .s) (s .pre .0) _ (s .pre .1) _ _ _ _ _ (r .run-list .ensures) _ _ _ _ (k .match .keys2) (s .pre .2) _ _
-    (w .write-matrix .ensures) _ (n .next-of .ensures) (t .tell-ended2 .ensures)
+    (w .write-matrix-by-head .ensures) _ (n .next-of .ensures) (t .tell-ended2 .ensures)
 
 pub run-on-spec : {M : Type 1} → statement M
 run-on-spec =
@@ -74,7 +74,7 @@ run-on-spec =
     same-length-2
     same-length-3
     returns
-    write-matrix-requires
+    write-matrix-by-head-requires
     next-of-requires
     tell-ended-requires-2
     same-length-4

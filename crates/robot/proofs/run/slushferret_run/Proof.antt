@@ -1,7 +1,7 @@
 -- A scheme is read, then a list of requests is run on a matrix against it.
 -- Assumes nothing.
 use Rattle.robot.specs.Library.{givesRan, notRun, runAgainst, runBytes}
-use Rattle.robot.proofs.CallLaws.{scheme-read, scheme-refused, not-run}
+use Rattle.robot.proofs.CallLaws.{scheme-accepted, scheme-read, scheme-refused, not-run}
 use borrow.Author.Needs.{needs}
 use Rattle.robot.proofs.run.slushferret_run.Statement.{statement}
 use Rattle.robot.proofs.run.slushferret_run.Tie as tie
@@ -13,7 +13,10 @@ enum-told : tie.Need-enum-told
 enum-told c = search needs
 
 run-of-requires : tie.Need-run-of-requires
-run-of-requires c κs = search needs
+run-of-requires c κs =
+    let a = c .before .before .before in
+    let r = a .before .before .before in
+    scheme-accepted _ (λ i. r .before .before .before .before .before .before .shared-slice-known .given i .fits) _ (r .scheme-of .ensures) _ (a .enum-told .given .1)
 
 enum-known-answer : tie.Need-enum-known-answer
 enum-known-answer c = search needs

@@ -61,20 +61,20 @@ change-at-requires-2 c κs = search needs
 enum-told-3 : tie.Need-enum-told-3
 enum-told-3 c = search needs
 
-add-create-at : tie.Need-add-create-at
-add-create-at c = search needs
+add-thing-at : tie.Need-add-thing-at
+add-thing-at c = search needs
 
-create-at-requires : tie.Need-create-at-requires
-create-at-requires c κs = search needs
+thing-at-requires : tie.Need-thing-at-requires
+thing-at-requires c κs = search needs
 
 enum-told-4 : tie.Need-enum-told-4
 enum-told-4 c = search needs
 
-add-destroy-at : tie.Need-add-destroy-at
-add-destroy-at c = search needs
+add-thing-at-2 : tie.Need-add-thing-at-2
+add-thing-at-2 c = search needs
 
-destroy-at-requires : tie.Need-destroy-at-requires
-destroy-at-requires c κs = search needs
+thing-at-requires-2 : tie.Need-thing-at-requires-2
+thing-at-requires-2 c κs = search needs
 
 returns-3 : tie.Need-returns-3
 unfolding byCode
@@ -104,7 +104,7 @@ returns-5 c =
     let number = code .before .before in
     let e1 = sym (number .before .before .field-at .ensures) ∙ number .v .given .1 in
     rw (operation-lines _ _ _ _ _ _, e1, ← test .before .last-group .ensures, ← code .code-of .ensures, ← test .before .before .group-of .ensures)
-    (rw (le-leb _ _ (test .if1 .left), c .before .enum-told3 .given .1) (c .create-at .ensures))
+    (rw (le-leb _ _ (test .if1 .left), c .before .enum-told3 .given .1) (c .thing-at .ensures))
 
 returns-6 : tie.Need-returns-6
 unfolding byCode
@@ -114,7 +114,7 @@ returns-6 c =
     let number = code .before .before in
     let e1 = sym (number .before .before .field-at .ensures) ∙ number .v .given .1 in
     rw (operation-lines _ _ _ _ _ _, e1, ← test .before .last-group .ensures, ← code .code-of .ensures, ← test .before .before .group-of .ensures)
-    (rw (le-leb _ _ (test .if1 .left), c .before .enum-told4 .given .1) (c .destroy-at .ensures))
+    (rw (le-leb _ _ (test .if1 .left), c .before .enum-told4 .given .1) (c .thing-at2 .ensures))
 
 pub operation-at-spec : {M : Type 1} → statement M
 operation-at-spec =
@@ -135,11 +135,11 @@ operation-at-spec =
     add-change-at-2
     change-at-requires-2
     enum-told-3
-    add-create-at
-    create-at-requires
+    add-thing-at
+    thing-at-requires
     enum-told-4
-    add-destroy-at
-    destroy-at-requires
+    add-thing-at-2
+    thing-at-requires-2
     returns-3
     returns-4
     returns-5

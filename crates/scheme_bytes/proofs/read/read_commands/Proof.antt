@@ -8,7 +8,8 @@ use lib.ListN.{replicate}
 use Rattle.model.specs.declared.Command.{Command}
 use Rattle.records.proofs.Loop.{Looped, looped-none, looped-on, looped-stop, looped-all, fill-next}
 use Rattle.scheme_bytes.specs.Read.{noCommand}
-use Rattle.scheme_bytes.proofs.ReadLaws.{commandAt, at-done, at-refused}
+use Rattle.scheme_bytes.proofs.CommandLaws.{commandAt}
+use Rattle.scheme_bytes.proofs.ReadLaws.{at-done, at-refused}
 use borrow.Author.Needs.{needs}
 use Rattle.scheme_bytes.proofs.read.read_commands.Statement.{statement}
 use Rattle.scheme_bytes.proofs.read.read_commands.Tie as tie

@@ -1,0 +1,1 @@
+// Theorems only: the contract of each public function determines its result and all that was lent.
