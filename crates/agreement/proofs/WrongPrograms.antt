@@ -1,11 +1,11 @@
--- Each wrong program is caught by a starred example.
+-- Each wrong program is caught by a starred example, invented totals by the totals being the papers'.
 -- Assumes nothing.
 use Prim.Native.Nat.{ℕ}
 use native.Mathlib.Omega.{arith}
 use mathlib.Core.Path.{_≡_, refl, sym, ap, _∙_}
 use mathlib.Core.List.{List, [], _∷_}
 use lib.ListN.{getD}
-use Rattle.rights.specs.Sets.{has, single, enterRight, deleteRight, within, partner, gained, converted, countRights}
+use Rattle.rights.specs.Sets.{has, single, enterRight, deleteRight, within, partner, gained, converted}
 use Rattle.model.specs.Check.{_orElse_, must, passes, any, all, isSome}
 use Rattle.model.specs.Scheme.{isSubject, typeAt, idAt, creates, destroys, isNew}
 use Rattle.model.specs.Request.{Request, isId, number, after, unlessFault, andThen, typeFault, placeFault, placesFault, holds, act, operate, operateAll, carryOut, carryOutIf, step, run, answers}
@@ -15,10 +15,8 @@ use Rattle.model.specs.KeyExample.{keyScheme, keyMatrix, ask}
 use Rattle.conversion.specs.Conversion.{conversionFault, partnerOf, convertTest, onPartner, convertOperations, convertCommand, convertScheme, convertCells, convertMatrix}
 use Rattle.engine.specs.Step.{requestOn}
 use Rattle.convert.specs.Convert.{schemeFault, matrixFault, convertedScheme, convertedCells}
-use Rattle.totals.specs.Totals.{filled, sumOf, memoryTotals, totalsOf}
-use Rattle.totals.specs.declared.answers.Totals.{Totals}
-use Rattle.totals.specs.declared.answers.Totals.the-variants.{Counted, Refused}
-use Rattle.agreement.specs.WrongPrograms.{Asked, Held, Part, ofRequest, resultOf, ofCells, ofTotals, afterFirst, WrongPrograms}
+use Rattle.totals.proofs.TrueTotals.{true-totals}
+use Rattle.agreement.specs.WrongPrograms.{Asked, Held, Calls, ofRequest, resultOf, ofCells, afterCalls, ofCalls, WrongPrograms}
 
 -- ---- the examples: load(9, 12) from the start; again once the key is retired; the start itself
 abbrev load-retire : List Request
@@ -28,21 +26,13 @@ abbrev first : Asked
 first = record { scheme = keyScheme; matrix = keyMatrix; command = 1; ids = 9 ∷ 12 ∷ [] }
 
 abbrev third : Asked
-third = record { scheme = keyScheme; matrix = run seats keyScheme keyMatrix load-retire; command = 1; ids = 9 ∷ 12 ∷ [] }
+third = record { scheme = keyScheme; matrix = afterCalls keyScheme keyMatrix load-retire; command = 1; ids = 9 ∷ 12 ∷ [] }
 
 abbrev start : Held
 start = record { scheme = keyScheme; matrix = keyMatrix }
 
-abbrev end : Held
-end = record { scheme = keyScheme; matrix = run seats keyScheme keyMatrix load-retire }
-
-abbrev one-of-two : Part
-one-of-two = record { scheme = keyScheme; matrix = keyMatrix; requests = load-retire; first = 1 }
-
--- how many cells aren't empty
-abbrev cellsIn : Totals → ℕ
-cellsIn (Counted things cells entries) = cells
-cellsIn (Refused k) = 0
+abbrev one-of-two : Calls
+one-of-two = record { scheme = keyScheme; matrix = keyMatrix; requests = load-retire; called = 1 }
 
 -- what the definitions give there
 record Computed : Type 0 where
@@ -53,14 +43,12 @@ record Computed : Type 0 where
   robot-cell : getD (ofCells start .1) 50 0 ≡ 210
   key-rights : keyScheme .head .rights ≡ 4
   robot-rights : convertedScheme keyScheme .scheme .head .rights ≡ 8
-  after-one : getD (afterFirst one-of-two .cells) 49 0 ≡ 0
-  after-two : getD (run seats keyScheme keyMatrix load-retire .cells) 49 0 ≡ 4
-  start-totals : cellsIn (ofTotals start) ≡ 2
-  end-totals : cellsIn (ofTotals end) ≡ 3
+  after-one : getD (ofCalls one-of-two .cells) 49 0 ≡ 0
+  after-two : getD (afterCalls keyScheme keyMatrix load-retire .cells) 49 0 ≡ 4
 
 computed : Computed
-unfolding has single enterRight deleteRight within partner gained converted countRights _orElse_ must passes any all isSome isSubject typeAt idAt creates destroys isNew isId number after unlessFault andThen typeFault placeFault placesFault holds act operate operateAll carryOut carryOutIf step run answers among find known seat thingAt place cell change putThing remove seats between firstFault headFault typeRange rowFault testFault changeFault thingFault codeFault operationFault operationsFault commandFault zeroType zeroTest zeroOperation padded paddedCommand zeroCommand acceptedCommand acceptedScheme apart acceptedSeats acceptedThings standing acceptedPlaces acceptedMatrix keyScheme keyMatrix conversionFault partnerOf convertTest onPartner convertOperations convertCommand convertScheme convertCells convertMatrix schemeFault matrixFault convertedScheme convertedCells requestOn filled sumOf memoryTotals totalsOf
-computed = record { first-result = refl; first-cell = refl; start-cell = refl; third-result = refl; robot-cell = refl; robot-rights = refl; after-one = refl; after-two = refl; start-totals = refl; end-totals = refl; key-rights = refl }
+unfolding has single enterRight deleteRight within partner gained converted _orElse_ must passes any all isSome isSubject typeAt idAt creates destroys isNew isId number after unlessFault andThen typeFault placeFault placesFault holds act operate operateAll carryOut carryOutIf step run answers among find known seat thingAt place cell change putThing remove seats between firstFault headFault typeRange rowFault testFault changeFault thingFault codeFault operationFault operationsFault commandFault zeroType zeroTest zeroOperation padded paddedCommand zeroCommand acceptedCommand acceptedScheme apart acceptedSeats acceptedThings standing acceptedPlaces acceptedMatrix keyScheme keyMatrix conversionFault partnerOf convertTest onPartner convertOperations convertCommand convertScheme convertCells convertMatrix schemeFault matrixFault convertedScheme convertedCells requestOn afterCalls
+computed = record { first-result = refl; first-cell = refl; start-cell = refl; third-result = refl; robot-cell = refl; robot-rights = refl; after-one = refl; after-two = refl; key-rights = refl }
 
 differ : {x y a b : ℕ} → x ≡ y → x ≡ a → y ≡ b → (a ≡ b → ⊥) → ⊥
 differ e f g other = other (sym f ∙ e ∙ g)
@@ -86,7 +74,5 @@ wrong-programs = record {
   wholeListAtFirst = λ program early meets.
       let e = sym (meets one-of-two) ∙ early keyScheme keyMatrix load-retire in
       differ (ap (λ m. at 49 (m .cells)) e) (computed .after-one) (computed .after-two) (λ e. omega (arith, e));
-  inventedTotals = λ program t same meets.
-      let e : ofTotals start ≡ ofTotals end = sym (meets start) ∙ same start ∙ sym (same end) ∙ meets end in
-      differ (ap cellsIn e) (computed .start-totals) (computed .end-totals) (λ e. omega (arith, e));
+  inventedTotals = λ program h scheme matrix other meets. other (meets h ∙ true-totals (h .scheme) (h .matrix) scheme matrix);
 }

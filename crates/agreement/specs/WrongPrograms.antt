@@ -3,17 +3,19 @@
 -- Assumes nothing.
 use Prim.Native.Nat.{ℕ}
 use mathlib.Core.Path.{_≡_}
-use mathlib.Core.List.{List}
+use mathlib.Core.List.{List, [], _∷_}
+use lib.Dec.{T}
 use lib.ListN.{take}
-use Rattle.model.specs.Request.{Request, run}
-use Rattle.model.specs.Seats.{Matrix, seats}
+use Rattle.model.specs.Request.{Request}
+use Rattle.model.specs.Seats.{Matrix, standsFor}
+use Rattle.model.specs.Accepted.{acceptedScheme, acceptedMatrix}
 use Rattle.model.specs.declared.Scheme.{Scheme}
 use Rattle.engine.specs.Step.{numberOf, requestOn}
 use Rattle.engine.specs.declared.answers.Stepped.{Stepped}
 use Rattle.convert.specs.Convert.{convertedScheme, convertedCells}
 use Rattle.convert.specs.declared.answers.Conversion.{Conversion}
 use Rattle.convert.specs.declared.answers.SchemeConversion.{SchemeConversion}
-use Rattle.totals.specs.Totals.{totalsOf}
+use Rattle.totals.specs.Totals.{paperTotals, totalsOf}
 use Rattle.totals.specs.declared.answers.Totals.{Totals}
 
 -- ---- what a request is asked of, and the statement of `request`: the answer with the things, and what the cells then hold
@@ -42,15 +44,22 @@ ofCells h = convertedCells (h .scheme) (h .matrix)
 abbrev pub ofTotals : Held → Totals
 ofTotals h = totalsOf (h .scheme) (h .matrix)
 
--- the matrix after the first k of a list of requests, each by one call of `request`
-pub record Part : Type 0 where
+-- the matrix after requests that are carried out by one call of `request` each
+unfoldable pub afterCalls : Scheme → Matrix → List Request → Matrix
+afterCalls s m [] = m
+afterCalls s m (q ∷ qs) =
+    let r = requestOn s m (q .command) (q .ids) in
+    afterCalls s (record { things = r .0 .things; cells = r .1 }) qs
+
+-- a list of requests, and how many of them have been called
+pub record Calls : Type 0 where
   pub scheme : Scheme
   pub matrix : Matrix
   pub requests : List Request
-  pub first : ℕ
+  pub called : ℕ
 
-abbrev pub afterFirst : Part → Matrix
-afterFirst p = run seats (p .scheme) (p .matrix) (take (p .first) (p .requests))
+abbrev pub ofCalls : Calls → Matrix
+ofCalls c = afterCalls (c .scheme) (c .matrix) (take (c .called) (c .requests))
 
 pub record WrongPrograms : Type 0 where
   -- a version that refuses everything, whatever number it gives
@@ -63,8 +72,9 @@ pub record WrongPrograms : Type 0 where
   pub copiesMatrix : (program : Held → Conversion × List ℕ) → ((h : Held) → program h .1 ≡ h .matrix .cells) → Meets ofCells program → ⊥
   pub copiesScheme : (program : Scheme → SchemeConversion) → ((s : Scheme) → program s .scheme ≡ s) → Meets convertedScheme program → ⊥
   -- one that carries out the whole list at the first request, and pretends later
-  pub wholeListAtFirst : (program : Part → Matrix) →
-      ((s : Scheme) (m : Matrix) (qs : List Request) → program (record { scheme = s; matrix = m; requests = qs; first = 1 }) ≡ run seats s m qs) →
-      Meets afterFirst program → ⊥
-  -- one that gives invented totals, the same ones for every matrix
-  pub inventedTotals : (program : Held → Totals) (t : Totals) → ((h : Held) → program h ≡ t) → Meets ofTotals program → ⊥
+  pub wholeListAtFirst : (program : Calls → Matrix) →
+      ((s : Scheme) (m : Matrix) (qs : List Request) → program (record { scheme = s; matrix = m; requests = qs; called = 1 }) ≡ afterCalls s m qs) →
+      Meets ofCalls program → ⊥
+  -- one that gives invented totals: of any accepted matrix others than the papers' matrix has
+  pub inventedTotals : (program : Held → Totals) (h : Held) → T (acceptedScheme (h .scheme)) → T (acceptedMatrix (h .scheme .head) (h .matrix)) →
+      (program h ≡ paperTotals (standsFor (h .matrix)) → ⊥) → Meets ofTotals program → ⊥

@@ -6,9 +6,6 @@ mod none;
 mod read;
 mod reader;
 
-pub use answers::HeadAt;
 pub use answers::SchemeAnswer;
 pub use none::no_scheme;
-pub use reader::SchemeReader;
 pub use reader::read_scheme;
-pub use reader::scheme_reader;

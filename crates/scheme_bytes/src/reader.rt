@@ -12,7 +12,7 @@ pub struct SchemeReader<'a> {
     pub input: &'a [u8],
 }
 
-pub fn scheme_reader<'a>(input: &'a [u8]) -> SchemeReader<'a>
+pub(crate) fn scheme_reader<'a>(input: &'a [u8]) -> SchemeReader<'a>
     ensures { λ r. ⌜ r .input ≡ input .entry ⌝ }
 {
     SchemeReader { input }
@@ -20,14 +20,14 @@ pub fn scheme_reader<'a>(input: &'a [u8]) -> SchemeReader<'a>
 
 impl<'a> SchemeReader<'a> {
     // The head, at the start of the input.
-    pub fn head(self) -> HeadAt
+    pub(crate) fn head(self) -> HeadAt
         ensures { λ r. ⌜ r ≡ readHead (now (self .entry .input)) 0 ⌝ }
     {
         read_head(self.input, 0)
     }
 
     // The commands behind the head that was found, and the end.
-    pub fn rest(self, found: HeadAt, table: Scheme) -> SchemeAnswer
+    pub(crate) fn rest(self, found: HeadAt, table: Scheme) -> SchemeAnswer
         ensures { λ r. ⌜ r ≡ readRest (now (self .entry .input)) found table ⌝ }
     {
         read_rest(self.input, found, table)
@@ -35,7 +35,7 @@ impl<'a> SchemeReader<'a> {
 }
 
 // The whole of an input as a scheme; where it is refused, the table comes back as it was handed in. Its parameters are plain, so what
-// calls it is covered.
+// calls it is covered; no other crate sees the struct, which would take a head that no reading gives.
 pub fn read_scheme(s: &[u8], table: Scheme) -> SchemeAnswer
     ensures { λ r. ⌜ r ≡ readScheme (now (s .entry)) table ⌝ }
 {

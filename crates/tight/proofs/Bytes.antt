@@ -26,10 +26,7 @@ use Rattle.records.proofs.put8 as put8
 use Rattle.records.proofs.put_front as put-front
 use Rattle.records.proofs.write_record as write-record
 use Rattle.scheme_bytes.proofs.no_scheme as no-scheme
-use Rattle.scheme_bytes.proofs.reader.SchemeReader.head as SchemeReader-head
-use Rattle.scheme_bytes.proofs.reader.SchemeReader.rest as SchemeReader-rest
 use Rattle.scheme_bytes.proofs.read_scheme as read-scheme
-use Rattle.scheme_bytes.proofs.scheme_reader as scheme-reader
 use Rattle.scheme_write.proofs.write_scheme as write-scheme
 use Rattle.matrix_bytes.proofs.read_matrix as read-matrix
 use Rattle.matrix_bytes.proofs.read_matrix_by_head as read-matrix-by-head
@@ -85,17 +82,8 @@ module _ {M : Type 1} (𝓤 : URA M) (H : Heap 𝓤) (A : Atoms 𝓤) (mem : Mem
   pub no-scheme-unique : Determined 𝓤 no-scheme.ended (no-scheme.clauses 𝓤 H A mem run) (λ κs e. [])
   no-scheme-unique κs a v r q e f = unique 𝓤 (λ x. x) (λ x. [])
 
-  pub SchemeReader-head-unique : Determined 𝓤 SchemeReader-head.ended (SchemeReader-head.clauses 𝓤 H A mem run) (λ κs e. [])
-  SchemeReader-head-unique κs a v r q e f = unique 𝓤 (λ x. x) (λ x. [])
-
-  pub SchemeReader-rest-unique : Determined 𝓤 SchemeReader-rest.ended (SchemeReader-rest.clauses 𝓤 H A mem run) (λ κs e. [])
-  SchemeReader-rest-unique κs a v r q e f = unique 𝓤 (λ x. x) (λ x. [])
-
   pub read-scheme-unique : Determined 𝓤 read-scheme.ended (read-scheme.clauses 𝓤 H A mem run) (λ κs e. [])
   read-scheme-unique κs a v r q e f = unique 𝓤 (λ x. x) (λ x. [])
-
-  pub scheme-reader-unique : Determined 𝓤 scheme-reader.ended (scheme-reader.clauses 𝓤 H A mem run) (λ κs e. [])
-  scheme-reader-unique κs a v r q e f = unique 𝓤 (λ i. record { input = i }) (λ i. [])
 
   -- ---- scheme_write
   pub write-scheme-unique : Determined 𝓤 write-scheme.ended (write-scheme.clauses 𝓤 H A mem run) (λ κs e. now (e .0) ∷ [])
