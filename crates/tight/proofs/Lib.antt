@@ -1,5 +1,3 @@
--- That every public function's contract determines what it gives: the general law, and a line for each function.
+-- That the contract of every public function is tight: the general law, and a line for each function.
 pub mod General
-pub mod Values
-pub mod Bytes
-pub mod Runs
+pub mod Functions

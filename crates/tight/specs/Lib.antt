@@ -1,2 +1,3 @@
--- What it means that a contract determines what a function gives.
-pub mod Determined
+-- That the contract of every public function is tight: what that means, and of which functions it is said.
+pub mod Tight
+pub mod Functions

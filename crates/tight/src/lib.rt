@@ -1,1 +1,1 @@
-// Theorems only: the contract of each public function determines its result and all that was lent.
+// Theorems only: the contract of each public function asks for nothing, and determines its result and all that was lent.
