@@ -1,8 +1,7 @@
 // Reads scheme.bin and matrix.bin in the folder that it is started in, and writes robot-scheme.bin and robot-matrix.bin. Where one of them is refused,
 // neither is written. Each is written whole under another name first and then renamed, so that a power cut leaves the old one.
+use files::Loaded;
 use libc::STDOUT_FILENO;
-
-const ENOENT: i32 = 2;
 
 fn say(text: &[u8]) {
     io::write_all(STDOUT_FILENO, text);
@@ -12,18 +11,14 @@ fn say_number(n: usize) {
     io::print_decimal(STDOUT_FILENO, n as u64);
 }
 
-// As much of a file as fits, and how much that is; a missing file is empty input.
-fn read_file(path: &[u8], buf: &mut [u8]) -> usize {
-    let fd = os::open_read(path);
-    if fd < 0 {
-        if os::errno() != ENOENT {
-            os::fail(path);
-        }
-        return 0;
+// As much of a file as fits, and how much that is; a missing file is empty input, and so is one that can't be read.
+fn input(path: &[u8], buf: &mut [u8]) -> usize {
+    match files::read_file(path, buf) {
+        Loaded::Whole(n) => n,
+        Loaded::Longer(n) => n,
+        Loaded::Missing => 0,
+        Loaded::Failed => 0,
     }
-    let n = io::read_full(fd, buf);
-    libc::close(fd);
-    n
 }
 
 // Which file is at fault, where, and with which number.
@@ -86,7 +81,7 @@ fn write_both(scheme: &[u8], matrix: &[u8]) {
 
 // The converted matrix beside the converted scheme; only where both are there is anything written.
 fn convert_both(scheme: &[u8], matrix: &[u8], robot_scheme: &[u8]) {
-    let mut robot_matrix = [0u8; 65536];
+    let mut robot_matrix = io::large_buffer();
     let mut report = [0usize; 4];
     let x = robot::slushferret_convert_matrix(scheme, matrix, &mut robot_matrix, &mut report);
     if x != 0 {
@@ -97,7 +92,7 @@ fn convert_both(scheme: &[u8], matrix: &[u8], robot_scheme: &[u8]) {
 }
 
 fn convert_files(scheme: &[u8], matrix: &[u8]) {
-    let mut robot_scheme = [0u8; 65536];
+    let mut robot_scheme = io::large_buffer();
     let mut report = [0usize; 4];
     let x = robot::slushferret_convert_scheme(scheme, &mut robot_scheme, &mut report);
     if x != 0 {
@@ -108,9 +103,9 @@ fn convert_files(scheme: &[u8], matrix: &[u8]) {
 }
 
 fn main() {
-    let mut scheme = [0u8; 65536];
-    let mut matrix = [0u8; 65536];
-    let a = read_file(b"scheme.bin", &mut scheme);
-    let b = read_file(b"matrix.bin", &mut matrix);
+    let mut scheme = io::large_buffer();
+    let mut matrix = io::large_buffer();
+    let a = input(b"scheme.bin", &mut scheme);
+    let b = input(b"matrix.bin", &mut matrix);
     convert_files(records::body(&scheme, 0, a), records::body(&matrix, 0, b));
 }

@@ -1,5 +1,6 @@
--- The robots' library: functions on bytes and numbers only. Each gives a number, 0 for success, and puts four numbers into a lent report: where the
--- fault lies, its position, how many answers were stored, how many bytes were written. Assumes nothing.
+-- The robots' library: functions on bytes and numbers only. Each gives a number, 0 for success, and puts five numbers into a lent report: where the
+-- fault lies, its position, how many answers were stored, how many bytes were written, and the number of a record of a list that can't be read.
+-- A call that gives a number other than 0 has stored nothing but the report. Assumes nothing.
 use Prim.Native.Nat.{ℕ}
 use mathlib.Core.Bool.{cond}
 use mathlib.Core.List.{List, [], _∷_}
@@ -26,16 +27,20 @@ use Rattle.convert.specs.Convert.{convertSchemeInto, convertMatrixInto}
 
 -- ---- what every function gives
 
--- the number, and the four numbers of the report
+-- the number, and the five numbers of the report
 pub record Called : Type 0 where
   pub number : ℕ
   pub report : List ℕ
 
 -- where a fault lies: 1 the scheme, 2 the matrix, 3 the list of requests, 4 the answers' buffer, 5 the output; 0 where there is none
 abbrev pub call : ℕ → ℕ → ℕ → ℕ → ℕ → Called
-call number where′ at count written = record { number = number; report = where′ ∷ at ∷ count ∷ written ∷ [] }
+call number where′ at count written = record { number = number; report = where′ ∷ at ∷ count ∷ written ∷ 0 ∷ [] }
 
--- what a report holds afterwards: the first four of its numbers are put, as far as there is room
+-- a list that a record which can't be read has ended, at a position and with a number of its own; what came before it was carried out
+abbrev pub cutShort : ℕ → ℕ → ℕ → ℕ → Called
+cutShort number at count written = record { number = 0; report = 3 ∷ at ∷ count ∷ written ∷ number ∷ [] }
+
+-- what a report holds afterwards: the first five of its numbers are put, as far as there is room
 unfoldable pub reported : List ℕ → Called → List ℕ
 reported report c = sets report 0 (c .report)
 
@@ -98,7 +103,7 @@ bytesAfter s m l = matrixBytes (s .head) (run seats s m (l .requests))
 -- a record that can't be read ends the list; what came before is carried out
 abbrev pub endedBy : ℕ → ℕ → Reading → Called
 endedBy count written (Done next) = call 0 0 0 count written
-endedBy count written (Refused k at) = call k 3 at count written
+endedBy count written (Refused k at) = cutShort k at count written
 
 -- 9 where the answers or the new matrix don't fit, before anything is stored
 unfoldable pub runMatrix : Scheme → Matrix → Listed → List ℕ → List ℕ → Ran
@@ -154,3 +159,7 @@ convertMatrixBytes scheme matrix out = withScheme (notConverted out) scheme (λ 
 -- ---- writing a request behind others: 4 above 8 ids, then 9; what is written is the position behind it
 unfoldable pub requestBytes : List ℕ → ℕ → ℕ → List ℕ → Wrote
 requestBytes out at command ids = wrote 3 (writeRequest out at command ids)
+
+-- ---- the library's version: it moves when a format or a function's meaning moves
+abbrev pub version : ℕ
+version = 2

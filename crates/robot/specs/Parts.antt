@@ -9,7 +9,7 @@ use Rattle.engine.specs.List.{Listed}
 use Rattle.engine.specs.declared.answers.RunAnswer.{RunAnswer}
 use Rattle.engine.specs.declared.answers.RunAnswer.the-variants as ended
 use Rattle.robot.specs.declared.run.Needed.{Needed}
-use Rattle.robot.specs.Library.{Called, call, bytesAfter}
+use Rattle.robot.specs.Library.{Called, call, cutShort, bytesAfter}
 
 -- how many bytes were written
 abbrev pub nextOf : Writing → ℕ
@@ -24,7 +24,7 @@ countOf (ended.Refused k) = 0
 
 abbrev pub endingBy : ℕ → RunAnswer → Called
 endingBy written (ended.Whole count) = call 0 0 0 count written
-endingBy written (ended.Bad count k at) = call k 3 at count written
+endingBy written (ended.Bad count k at) = cutShort k at count written
 endingBy written (ended.Refused k) = call k 4 0 0 0
 
 -- what a run will take of the two buffers

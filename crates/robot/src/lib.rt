@@ -3,6 +3,7 @@ mod check;
 mod convert_bytes;
 mod report;
 mod run;
+mod version;
 
 pub use check::slushferret_check_matrix;
 pub use check::slushferret_check_scheme;
@@ -10,3 +11,4 @@ pub use convert_bytes::slushferret_convert_matrix;
 pub use convert_bytes::slushferret_convert_scheme;
 pub use run::slushferret_run;
 pub use run::slushferret_write_request;
+pub use version::slushferret_version;

@@ -1,4 +1,4 @@
-// The four numbers that every function of the library puts into the lent report.
+// The five numbers that every function of the library puts into the lent report.
 use records::Writing;
 ghost use mathlib.Core.Bool.{cond};
 ghost use mathlib.Core.Path.{_≡_};
@@ -6,7 +6,7 @@ ghost use mathlib.Core.List.{List};
 ghost use Prim.Native.Nat.{ℕ};
 ghost use lib.Dec.{eqb};
 ghost use lib.ListN.{set};
-ghost use Rattle.robot.specs.Library.{call, gives, writingBy};
+ghost use Rattle.robot.specs.Library.{call, cutShort, gives, writingBy};
 
 fn put(report: &mut [usize], i: usize, v: usize)
     ensures { λ _. ⌜ now (report .exit) ≡ set (now (report .entry)) i v ⌝ }
@@ -17,7 +17,7 @@ fn put(report: &mut [usize], i: usize, v: usize)
 }
 
 // Where the fault lies (1 the scheme, 2 the matrix, 3 the list, 4 the answers' buffer, 5 the output), its position, how many answers were stored, how
-// many bytes were written.
+// many bytes were written; no record of a list is at fault.
 pub(crate) fn tell(
     report: &mut [usize],
     number: u8,
@@ -32,7 +32,26 @@ pub(crate) fn tell(
     put(report, 1, at);
     put(report, 2, count);
     put(report, 3, written);
+    put(report, 4, 0);
     number
+}
+
+// A record of a list can't be read, and what came before it was carried out: its number is told here, and the call's is 0.
+pub(crate) fn tell_cut(
+    report: &mut [usize],
+    number: u8,
+    at: usize,
+    count: usize,
+    written: usize,
+) -> u8
+    ensures { λ r. ⌜ _≡_ {A = ℕ × List ℕ} (r, now (report .exit)) (gives (now (report .entry)) (cutShort number at count written)) ⌝ }
+{
+    put(report, 0, 3);
+    put(report, 1, at);
+    put(report, 2, count);
+    put(report, 3, written);
+    put(report, 4, number as usize);
+    0
 }
 
 fn place_of(number: u8, other: usize) -> usize

@@ -2,6 +2,7 @@
 use crate::check::no_things;
 use crate::check::scheme_of;
 use crate::report::tell;
+use crate::report::tell_cut;
 use crate::report::tell_writing;
 use engine::RunAnswer;
 use model::Scheme;
@@ -58,7 +59,7 @@ fn tell_ended(report: &mut [usize], answer: RunAnswer, written: usize) -> u8
 {
     match answer {
         RunAnswer::Whole { count } => tell(report, 0, 0, 0, count, written),
-        RunAnswer::Bad { count, number, at } => tell(report, number, 3, at, count, written),
+        RunAnswer::Bad { count, number, at } => tell_cut(report, number, at, count, written),
         RunAnswer::Refused(x) => tell(report, x, 4, 0, 0, 0),
     }
 }
@@ -74,7 +75,7 @@ fn trial_of(s: Scheme, th: Things, cells: [u64; 2304], requests: &[u8]) -> Neede
     let answer = ran.answer;
     let answers = count_of(answer);
     let things = ran.things;
-    let mut scratch = [0u8; 37206];
+    let mut scratch = [0u8; LARGEST];
     let bytes = next_of(matrix_write::write_matrix_by_head(&mut scratch, h, things, &trial));
     Needed { answers, bytes }
 }

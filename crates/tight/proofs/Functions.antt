@@ -115,4 +115,5 @@ robot M = record {
   slushferret-convert-scheme = equation (λ κs a z w p i. (p i .0, (tt, (p i .1, (p i .2, z .1 .1 .1 .1)))));
   slushferret-run = equation (λ κs a z w p i. (p i .0, (tt, (tt, (tt, (p i .1, (p i .2, (p i .3, z .1 .1 .1 .1 .1 .1 .1))))))));
   slushferret-write-request = equation (λ κs a z w p i. (p i .0, (tt, (tt, (p i .1, (tt, (p i .2, z .1 .1 .1 .1 .1 .1)))))));
+  slushferret-version = equation (λ κs a z w p i. (p i, z .1));
 }

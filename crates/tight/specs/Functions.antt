@@ -104,3 +104,4 @@ pub record Robot (M : Type 1) : Type 2 where
   pub slushferret-convert-scheme : Tight M robot.slushferret_convert_scheme.ended robot.slushferret_convert_scheme.clauses
   pub slushferret-run : Tight M robot.slushferret_run.ended robot.slushferret_run.clauses
   pub slushferret-write-request : Tight M robot.slushferret_write_request.ended robot.slushferret_write_request.clauses
+  pub slushferret-version : Tight M robot.slushferret_version.ended robot.slushferret_version.clauses
