@@ -2,6 +2,7 @@
  * table gives the robot the same answers. What it prints is example.expected. */
 #include "slushferret.h"
 #include <stdio.h>
+#include <stdlib.h>
 
 /* rights: 0 own, 1 sign, 2 retired, 3 loaded; types: 0 manager, 1 key, 2 robot */
 static const uint8_t scheme[] = {
@@ -24,40 +25,56 @@ static const uint8_t matrix[] = {
 enum { RETIRE = 0, LOAD = 1 };
 
 /* what the last call reported */
-static size_t report[4];
+static size_t report[SLUSHFERRET_REPORT];
 
 static void print_refusal(const char *what, uint8_t number) {
     static const char *const places[] = {"nothing", "the scheme", "the matrix", "the requests", "the answers", "the output"};
-    printf("%s: refused with %d, in %s at byte %zu\n", what, number, places[report[0]], report[1]);
+    printf("%s: refused with %d, in %s at byte %zu\n", what, number, places[report[SLUSHFERRET_WHERE]], report[SLUSHFERRET_POSITION]);
 }
 
-/* the cells of a matrix that was written by the library: records of kind 5 */
+/* a call that must succeed: how many bytes are then in use */
+static size_t must(const char *what, uint8_t number) {
+    if (number != SLUSHFERRET_DONE) {
+        print_refusal(what, number);
+        exit(EXIT_FAILURE);
+    }
+    return report[SLUSHFERRET_WRITTEN];
+}
+
+/* a call that must be refused with a number */
+static void must_refuse(const char *what, uint8_t number, uint8_t expected) {
+    print_refusal(what, number);
+    if (number != expected) {
+        exit(EXIT_FAILURE);
+    }
+}
+
+/* the cells of a matrix that was written by the library */
 static void print_cells(const char *whose, const uint8_t *bytes, size_t length) {
     printf("%s, %zu bytes\n", whose, length);
     for (size_t at = 0; at < length; at += 4 + bytes[at]) {
         const uint8_t *body = bytes + at + 4;
-        if (bytes[at + 2] == 5) {
+        if (bytes[at + 2] == SLUSHFERRET_CELL) {
             printf("  [%d, %d] = %d\n", body[0] + 256 * body[1], body[2] + 256 * body[3], body[4]);
         }
     }
 }
 
-/* runs the list and prints each answer; the matrix afterwards is in `after` */
+/* runs the list and prints each answer, and what ended it if that isn't its end; the matrix afterwards is in `after` */
 static size_t run(const char *whose, const uint8_t *with, size_t with_length, const uint8_t *on, size_t on_length,
                   const uint8_t *requests, size_t requests_length, uint8_t *after) {
     uint8_t answers[8];
-    uint8_t number = slushferret_run(with, with_length, on, on_length, requests, requests_length, answers, sizeof answers,
-                                     after, SLUSHFERRET_MATRIX_BYTES, report, 4);
-    if (number != 0) {
-        print_refusal(whose, number);
-        return 0;
-    }
+    size_t written = must(whose, slushferret_run(with, with_length, on, on_length, requests, requests_length, answers, sizeof answers,
+                                                 after, SLUSHFERRET_MATRIX_BYTES, report, SLUSHFERRET_REPORT));
     printf("%s answers", whose);
-    for (size_t k = 0; k < report[2]; k++) {
+    for (size_t k = 0; k < report[SLUSHFERRET_ANSWERS]; k++) {
         printf(" %d", answers[k]);
     }
     printf("\n");
-    return report[3];
+    if (report[SLUSHFERRET_RECORD] != 0) {
+        printf("  the record at byte %zu can't be read: %zu\n", report[SLUSHFERRET_POSITION], report[SLUSHFERRET_RECORD]);
+    }
+    return written;
 }
 
 int main(void) {
@@ -66,37 +83,41 @@ int main(void) {
     static uint8_t after[SLUSHFERRET_MATRIX_BYTES];
     static uint8_t requests[3 * SLUSHFERRET_REQUEST_BYTES];
 
-    uint8_t number = slushferret_check_scheme(scheme, sizeof scheme, report, 4);
-    printf("scheme: %d, %zu bytes read\n", number, report[1]);
-    number = slushferret_check_matrix(scheme, sizeof scheme, matrix, sizeof matrix, report, 4);
-    printf("matrix: %d, %zu bytes read\n", number, report[1]);
-    number = slushferret_check_scheme(scheme, sizeof scheme - 1, report, 4);
-    print_refusal("scheme without its last byte", number);
+    if (slushferret_version() != SLUSHFERRET_VERSION) {
+        printf("header and archive are of two versions\n");
+        return EXIT_FAILURE;
+    }
+    must("scheme", slushferret_check_scheme(scheme, sizeof scheme, report, SLUSHFERRET_REPORT));
+    printf("scheme: %zu bytes read\n", report[SLUSHFERRET_POSITION]);
+    must("matrix", slushferret_check_matrix(scheme, sizeof scheme, matrix, sizeof matrix, report, SLUSHFERRET_REPORT));
+    printf("matrix: %zu bytes read\n", report[SLUSHFERRET_POSITION]);
+    must_refuse("scheme without its last byte", slushferret_check_scheme(scheme, sizeof scheme - 1, report, SLUSHFERRET_REPORT),
+                SLUSHFERRET_CUT);
 
     /* load(9, 12), retire(5, 9), load(9, 12), each behind the one before */
     static const uint8_t commands[] = {LOAD, RETIRE, LOAD};
     static const uint16_t ids[][2] = {{9, 12}, {5, 9}, {9, 12}};
     size_t length = 0;
     for (size_t k = 0; k < 3; k++) {
-        slushferret_write_request(commands[k], ids[k], 2, requests, sizeof requests, length, report, 4);
-        length = report[3];
+        length = must("request", slushferret_write_request(commands[k], ids[k], 2, requests, sizeof requests, length, report, SLUSHFERRET_REPORT));
     }
     printf("three requests, %zu bytes\n", length);
 
     size_t written = run("office", scheme, sizeof scheme, matrix, sizeof matrix, requests, length, after);
     print_cells("office's matrix afterwards", after, written);
+    run("office, with the list cut", scheme, sizeof scheme, matrix, sizeof matrix, requests, length - 1, after);
 
-    slushferret_convert_scheme(scheme, sizeof scheme, robot_scheme, sizeof robot_scheme, report, 4);
-    size_t robot_scheme_length = report[3];
-    slushferret_convert_matrix(scheme, sizeof scheme, matrix, sizeof matrix, robot_matrix, sizeof robot_matrix, report, 4);
-    size_t robot_matrix_length = report[3];
+    size_t robot_scheme_length =
+        must("robot's scheme", slushferret_convert_scheme(scheme, sizeof scheme, robot_scheme, sizeof robot_scheme, report, SLUSHFERRET_REPORT));
+    size_t robot_matrix_length = must("robot's matrix", slushferret_convert_matrix(scheme, sizeof scheme, matrix, sizeof matrix, robot_matrix,
+                                                                                   sizeof robot_matrix, report, SLUSHFERRET_REPORT));
     printf("robot's scheme, %zu bytes\n", robot_scheme_length);
     print_cells("robot's matrix", robot_matrix, robot_matrix_length);
 
     written = run("robot", robot_scheme, robot_scheme_length, robot_matrix, robot_matrix_length, requests, length, after);
     print_cells("robot's matrix afterwards", after, written);
 
-    number = slushferret_convert_scheme(scheme, sizeof scheme, robot_scheme, 54, report, 4);
-    print_refusal("robot's scheme into 54 bytes", number);
-    return 0;
+    must_refuse("robot's scheme into 54 bytes", slushferret_convert_scheme(scheme, sizeof scheme, robot_scheme, 54, report, SLUSHFERRET_REPORT),
+                SLUSHFERRET_ROOM);
+    return EXIT_SUCCESS;
 }

@@ -11,37 +11,12 @@
  *   - what is lent to be written (answers, out, report) overlaps nothing else that the same call is lent.
  * Then no function reads or writes outside of what it is lent.
  *
- * Every function gives a number: 0 for success, else one of the refusals below. It also puts four numbers into the lent
- * report, as far as that has room (so 4 elements hold all, and a count of 0 asks for none):
- *   report[0]  where the fault lies (SLUSHFERRET_IN_...), 0 where there is none
- *   report[1]  the fault's position in those bytes, that of the record at fault; 0 where none is meant
- *   report[2]  how many answers were stored
- *   report[3]  how many bytes of out are in use
+ * Every function but slushferret_version gives a number: SLUSHFERRET_DONE (0), else one of the refusals below. It also puts
+ * five numbers into the lent report, as far as that has room (so SLUSHFERRET_REPORT elements hold all, and a count of 0 asks
+ * for none); the slots have names below.
  *
- * A refused call stores nothing in answers or out. There is one exception, which is no refusal of the call: a list of
- * requests may end with a record that can't be read (see slushferret_run). An accepted call changes only the first
- * report[2] elements of answers and only the bytes of out that it says.
- *
- * The numbers:
- *    0  success
- *    1  fewer than 4 bytes left for a record's front, or the body runs past the end
- *    2  a record of a kind that may not stand there
- *    3  the body ends inside a field, or has bytes after its last field
- *    4  a count outside its range; more than 8 ids in a request to write
- *    5  a right, type or parameter out of the scheme's range, a cell's id that no thing has, a cell's right too high
- *    6  a fault of form
- *    7  a thing's id or a cell's place not above the one before
- *    8  bytes after the last command of a scheme
- *    9  answers or out is too short
- *   10  no such command                     14  a test is false
- *   11  another number of ids               15  a create of an id that exists
- *   12  an id 0, or of no thing             16  a create when 48 things exist
- *   13  a thing of another type             17  a destroy of a thing already gone
- *   20  conversion: a command creates or destroys
- *   21  conversion: more than 32 rights
- *   22  conversion: a command with more than 16 operations
- * 10 to 17 are answers to requests and never a function's number. 27 (a value that no reading gives) can't come up here:
- * this library reads all it is given.
+ * A call that gives a number other than 0 has stored nothing but the report. An accepted call changes only the first
+ * report[SLUSHFERRET_ANSWERS] elements of answers and only the bytes of out that it says.
  */
 #ifndef SLUSHFERRET_H
 #define SLUSHFERRET_H
@@ -53,7 +28,21 @@
 extern "C" {
 #endif
 
-/* where a fault lies: report[0] */
+/* The version of what stands here: it moves when a format or a function's meaning moves. slushferret_version gives that of
+ * the archive; a program that compares the two knows that header and archive belong together. */
+#define SLUSHFERRET_VERSION 2
+
+/* the slots of a report */
+enum {
+    SLUSHFERRET_WHERE = 0,    /* where the fault lies (SLUSHFERRET_IN_..), 0 where there is none */
+    SLUSHFERRET_POSITION = 1, /* its position in those bytes, that of the record at fault; 0 where none is meant */
+    SLUSHFERRET_ANSWERS = 2,  /* how many answers were stored */
+    SLUSHFERRET_WRITTEN = 3,  /* how many bytes of out are in use */
+    SLUSHFERRET_RECORD = 4,   /* the number of a record of a list that can't be read, which ended the list; else 0 */
+    SLUSHFERRET_REPORT = 5    /* so many slots */
+};
+
+/* where a fault lies: report[SLUSHFERRET_WHERE] */
 enum {
     SLUSHFERRET_IN_NOTHING = 0,
     SLUSHFERRET_IN_SCHEME = 1,
@@ -63,6 +52,54 @@ enum {
     SLUSHFERRET_IN_OUTPUT = 5   /* too short */
 };
 
+/* The numbers. 10 to 17 are answers to requests and never a function's number. 27 is of values that no reading gives; it
+ * can't come up here, since this library reads all that it is given. */
+enum {
+    SLUSHFERRET_DONE = 0,
+    SLUSHFERRET_CUT = 1,             /* fewer than 4 bytes left for a record's front, or its body runs past the end */
+    SLUSHFERRET_KIND = 2,            /* a record of a kind that may not stand there */
+    SLUSHFERRET_BODY = 3,            /* the body ends inside a field, or has bytes after its last field */
+    SLUSHFERRET_COUNT = 4,           /* a count outside its range; more than 8 ids in a request to write */
+    SLUSHFERRET_RANGE = 5,           /* a right, type or parameter out of the scheme's range, a cell's id that no thing has */
+    SLUSHFERRET_FORM = 6,            /* a fault of form */
+    SLUSHFERRET_ORDER = 7,           /* a thing's id or a cell's place not above the one before */
+    SLUSHFERRET_BEHIND = 8,          /* bytes after the last command of a scheme */
+    SLUSHFERRET_ROOM = 9,            /* answers or out is too short */
+    SLUSHFERRET_NO_COMMAND = 10,     /* no such command */
+    SLUSHFERRET_IDS = 11,            /* another number of ids than the command has parameters */
+    SLUSHFERRET_NO_THING = 12,       /* an id 0, or of no thing */
+    SLUSHFERRET_OTHER_TYPE = 13,     /* a thing of another type */
+    SLUSHFERRET_TEST = 14,           /* a test is false */
+    SLUSHFERRET_TAKEN = 15,          /* a create of an id that exists */
+    SLUSHFERRET_FULL = 16,           /* a create when 48 things exist */
+    SLUSHFERRET_GONE = 17,           /* a destroy of a thing already gone */
+    SLUSHFERRET_CHANGES_THINGS = 20, /* conversion: a command creates or destroys */
+    SLUSHFERRET_RIGHTS = 21,         /* conversion: more than 32 rights */
+    SLUSHFERRET_OPERATIONS = 22,     /* conversion: a command with more than 16 operations */
+    SLUSHFERRET_STRANGE = 27         /* a value that no reading gives */
+};
+
+/* the kinds of records */
+enum {
+    SLUSHFERRET_SCHEME_HEAD = 1,
+    SLUSHFERRET_COMMAND = 2,
+    SLUSHFERRET_MATRIX_HEAD = 3,
+    SLUSHFERRET_THING = 4,
+    SLUSHFERRET_CELL = 5,
+    SLUSHFERRET_REQUEST = 6
+};
+
+/* the limits of the outline */
+enum {
+    SLUSHFERRET_MOST_RIGHTS = 64,
+    SLUSHFERRET_MOST_TYPES = 16,
+    SLUSHFERRET_MOST_COMMANDS = 32,
+    SLUSHFERRET_MOST_PARAMETERS = 8,
+    SLUSHFERRET_MOST_TESTS = 16,
+    SLUSHFERRET_MOST_OPERATIONS = 32,
+    SLUSHFERRET_MOST_THINGS = 48
+};
+
 /* Room for the longest of each: no scheme, matrix or request has more bytes. */
 enum {
     SLUSHFERRET_SCHEME_BYTES = 6633,
@@ -70,23 +107,27 @@ enum {
     SLUSHFERRET_REQUEST_BYTES = 22
 };
 
-/* Whether bytes read as a scheme. 0, with their length as report[1]; or 1 to 6 or 8, in the scheme. */
+/* SLUSHFERRET_VERSION, as the archive has it. */
+uint32_t slushferret_version(void);
+
+/* Whether bytes read as a scheme. 0, with their length as the position; or 1 to 6 or 8, in the scheme. */
 uint8_t slushferret_check_scheme(const uint8_t *scheme, size_t scheme_length,
                                  size_t *report, size_t report_length);
 
-/* Whether bytes read as a matrix of a scheme. 0, with the matrix's length as report[1]; or the scheme's fault, in the
+/* Whether bytes read as a matrix of a scheme. 0, with the matrix's length as the position; or the scheme's fault, in the
  * scheme; or 1 to 7, in the matrix. */
 uint8_t slushferret_check_matrix(const uint8_t *scheme, size_t scheme_length,
                                  const uint8_t *matrix, size_t matrix_length,
                                  size_t *report, size_t report_length);
 
 /* Carries out a list of requests on a matrix. The answer to each (0, or 10 to 17) goes to answers, one byte each, and
- * the bytes of the matrix afterwards to out; report[2] and report[3] say how many of each. A refused request has no
- * effect on the matrix, and the list goes on.
+ * the bytes of the matrix afterwards to out; the report says how many of each. A refused request has no effect on the
+ * matrix, and the list goes on.
  * In this order: the scheme's fault; the matrix's; 9 if answers is too short; 9 if out is too short for the matrix
  * afterwards. With any of these nothing is stored.
- * If a record of the list can't be read, the number is 1 to 4, in the requests, with its position: the list ends there,
- * what came before is carried out, and answers, out, report[2] and report[3] are as for the list up to it.
+ * A record of the list that can't be read ends the list: what came before it is carried out, answered and written, the
+ * number is 0, and the report has SLUSHFERRET_IN_REQUESTS, the record's position and, as report[SLUSHFERRET_RECORD], its
+ * own number (1 to 4). That slot is 0 for a list that came to its end.
  * An out of SLUSHFERRET_MATRIX_BYTES or more is the quickest: with a shorter one the list is run twice, since the room
  * must be known before the first store. A list of n bytes has at most n / 6 requests. */
 uint8_t slushferret_run(const uint8_t *scheme, size_t scheme_length,
@@ -109,7 +150,7 @@ uint8_t slushferret_convert_matrix(const uint8_t *scheme, size_t scheme_length,
                                    uint8_t *out, size_t out_length,
                                    size_t *report, size_t report_length);
 
-/* Writes a request's record at a position of out; report[3] is the position behind it, where the next one goes. 4 for
+/* Writes a request's record at a position of out; report[SLUSHFERRET_WRITTEN] is the position behind it, where the next one goes. 4 for
  * more than 8 ids, in the requests; then 9, in the output. Neither the command nor the ids are checked: a run does. */
 uint8_t slushferret_write_request(uint8_t command, const uint16_t *ids, size_t ids_length,
                                   uint8_t *out, size_t out_length, size_t at,

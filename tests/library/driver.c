@@ -3,7 +3,7 @@
  *
  * A case: scheme's length, matrix's, list's, room, 1 if buffers of just the right length are to be tried, number of direct
  * requests (4 bytes each); the bytes of the first three; then each direct request: command (1), ids (1), 2 bytes an id. A
- * result: what was called, the number, all six numbers of the report, and for each lent buffer two numbers; 8 bytes a
+ * result: what was called, the number, all seven numbers of the report, and for each lent buffer two numbers; 8 bytes a
  * number. All little-endian.
  *
  * Buffers are filled with a pattern before each call. The two numbers of a buffer are the end of what no longer is the
@@ -22,7 +22,7 @@ enum {
     ROOM = 80000,   /* no case has more room */
     LARGE = 40000,  /* enough for every matrix, and for the answers to every list of a case */
     STEPS = 60,     /* so many requests of a list are also carried out one by one */
-    REPORT = 6      /* four numbers are told; two more stand as a guard */
+    REPORT = SLUSHFERRET_REPORT + 2 /* two more numbers than are told stand as a guard */
 };
 
 enum { CHECK_SCHEME = 1, CHECK_MATRIX, CONVERT_SCHEME, CONVERT_MATRIX, RUN, WRITE_REQUEST, INPUTS };
@@ -117,35 +117,35 @@ static void check_scheme(size_t report_length) {
 
 static void check_matrix(void) {
     clear_report();
-    uint8_t number = slushferret_check_matrix(scheme.bytes, scheme.length, matrix.bytes, matrix.length, report, 4);
+    uint8_t number = slushferret_check_matrix(scheme.bytes, scheme.length, matrix.bytes, matrix.length, report, SLUSHFERRET_REPORT);
     tell_call(CHECK_MATRIX, number);
 }
 
 static size_t convert_scheme(size_t lent) {
     clear_report();
-    uint8_t number = slushferret_convert_scheme(scheme.bytes, scheme.length, out.bytes + GUARD, lent, report, 4);
+    uint8_t number = slushferret_convert_scheme(scheme.bytes, scheme.length, out.bytes + GUARD, lent, report, SLUSHFERRET_REPORT);
     tell_call(CONVERT_SCHEME, number);
     tell_buffer(&out, lent);
-    return report[3];
+    return report[SLUSHFERRET_WRITTEN];
 }
 
 static size_t convert_matrix(size_t lent) {
     clear_report();
     uint8_t number = slushferret_convert_matrix(scheme.bytes, scheme.length, matrix.bytes, matrix.length,
-                                                out.bytes + GUARD, lent, report, 4);
+                                                out.bytes + GUARD, lent, report, SLUSHFERRET_REPORT);
     tell_call(CONVERT_MATRIX, number);
     tell_buffer(&out, lent);
-    return report[3];
+    return report[SLUSHFERRET_WRITTEN];
 }
 
 static void run(const uint8_t *list, size_t list_length, const struct part *on, size_t answers_lent, size_t out_lent,
                 struct part *after) {
     clear_report();
     uint8_t number = slushferret_run(scheme.bytes, scheme.length, on->bytes, on->length, list, list_length,
-                                     answers.bytes + GUARD, answers_lent, out.bytes + GUARD, out_lent, report, 4);
+                                     answers.bytes + GUARD, answers_lent, out.bytes + GUARD, out_lent, report, SLUSHFERRET_REPORT);
     tell_call(RUN, number);
     if (after) {
-        after->length = report[3] <= out_lent ? report[3] : 0;
+        after->length = report[SLUSHFERRET_WRITTEN] <= out_lent ? report[SLUSHFERRET_WRITTEN] : 0;
         memcpy(after->bytes, out.bytes + GUARD, after->length);
     }
     tell_buffer(&answers, answers_lent);
@@ -155,7 +155,7 @@ static void run(const uint8_t *list, size_t list_length, const struct part *on, 
 /* `copy` gets the record, where it was written */
 static uint8_t write_request(uint8_t command, const uint16_t *ids, size_t count, size_t lent, size_t at, uint8_t *copy) {
     clear_report();
-    uint8_t number = slushferret_write_request(command, ids, count, out.bytes + GUARD, lent, at, report, 4);
+    uint8_t number = slushferret_write_request(command, ids, count, out.bytes + GUARD, lent, at, report, SLUSHFERRET_REPORT);
     tell_call(WRITE_REQUEST, number);
     if (copy && number == 0) {
         memcpy(copy, out.bytes + GUARD + at, 6 + 2 * count);
@@ -220,8 +220,8 @@ static int run_list(size_t room, int edges) {
     const uint8_t *list = requests.bytes;
     size_t length = requests.length;
     run(list, length, &matrix, LARGE, LARGE, 0);
-    size_t count = report[2], written = report[3];
-    int carried_out = report[0] == SLUSHFERRET_IN_NOTHING || report[0] == SLUSHFERRET_IN_REQUESTS;
+    size_t count = report[SLUSHFERRET_ANSWERS], written = report[SLUSHFERRET_WRITTEN];
+    int carried_out = report[SLUSHFERRET_WHERE] == SLUSHFERRET_IN_NOTHING || report[SLUSHFERRET_WHERE] == SLUSHFERRET_IN_REQUESTS;
     run(list, length, &matrix, LARGE, room, 0);
     run(list, length, &matrix, room, LARGE, 0);
     if (edges && carried_out) {
@@ -245,7 +245,7 @@ static void run_steps(void) {
             length = left;
         }
         run(front, length, &now, 1, SLUSHFERRET_MATRIX_BYTES, &now);
-        if (report[0] != SLUSHFERRET_IN_NOTHING) {
+        if (report[SLUSHFERRET_WHERE] != SLUSHFERRET_IN_NOTHING) {
             return;
         }
         at += length;
@@ -270,7 +270,7 @@ static size_t direct(size_t room, size_t behind, int carried_out) {
     if (write_request(front[0], ids, front[1], LARGE, behind, record) != 0) {
         return behind;
     }
-    size_t next = report[3];
+    size_t next = report[SLUSHFERRET_WRITTEN];
     if (carried_out) {
         run(record, length, &now, 1, SLUSHFERRET_MATRIX_BYTES, &now);
     }

@@ -3,6 +3,7 @@
 use crate::{Place, Refusal};
 
 extern "C" {
+    fn slushferret_version() -> u32;
     fn slushferret_check_scheme(
         scheme: *const u8,
         scheme_length: usize,
@@ -66,14 +67,14 @@ extern "C" {
     ) -> u8;
 }
 
-/// The four numbers that a call puts into the lent report.
+/// The five numbers that a call puts into the lent report.
 pub struct Report {
-    numbers: [usize; 4],
+    numbers: [usize; 5],
 }
 
 impl Report {
     pub fn new() -> Report {
-        Report { numbers: [0; 4] }
+        Report { numbers: [0; 5] }
     }
 
     pub fn position(&self) -> usize {
@@ -86,6 +87,12 @@ impl Report {
 
     pub fn written(&self) -> usize {
         self.numbers[3]
+    }
+
+    /// The record that ended a list, if one did.
+    pub fn record(&self) -> Option<Refusal> {
+        // proved to be a refusal number of a record, or 0
+        self.result(self.numbers[4] as u8).err()
     }
 
     /// What the number means, with the place that was told.
@@ -218,4 +225,9 @@ pub fn write_request(
             report.len(),
         )
     }
+}
+
+pub fn version() -> u32 {
+    // SAFETY: it takes nothing.
+    unsafe { slushferret_version() }
 }

@@ -27,6 +27,14 @@ pub struct Run {
     pub ended_by: Option<Refusal>,
 }
 
+/// The version of the interface that this wrapper was written for.
+pub const VERSION: u32 = 2;
+
+/// The version that the linked archive has: another one than `VERSION` means that the two don't belong together.
+pub fn version() -> u32 {
+    foreign::version()
+}
+
 /// The scheme's length, if the bytes are one.
 pub fn check_scheme(scheme: &[u8]) -> Result<usize, Refusal> {
     let mut report = Report::new();
@@ -52,15 +60,11 @@ pub fn run(
 ) -> Result<Run, Refusal> {
     let mut report = Report::new();
     let number = foreign::run(scheme, matrix, requests, answers, out, &mut report);
-    let ended_by = match report.result(number) {
-        Ok(()) => None,
-        Err(refusal) if refusal.place == Place::Requests => Some(refusal),
-        Err(refusal) => return Err(refusal),
-    };
+    report.result(number)?;
     Ok(Run {
         answers: report.answers(),
         written: report.written(),
-        ended_by,
+        ended_by: report.record(),
     })
 }
 

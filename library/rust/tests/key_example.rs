@@ -1,7 +1,8 @@
 //! The outline's key example through the wrapper: each function once with success and once refused.
 
 use slushferret::{
-    check_matrix, check_scheme, convert_matrix, convert_scheme, run, write_request, Place, Refusal,
+    check_matrix, check_scheme, convert_matrix, convert_scheme, run, version, write_request, Place,
+    Refusal, VERSION,
 };
 
 const SCHEME: [u8; 47] = [
@@ -94,4 +95,9 @@ fn refused_calls_store_nothing() {
 fn a_refusal_in_words() {
     let words = check_scheme(&[]).unwrap_err().to_string();
     assert_eq!(words, "refused with 1, in the scheme at byte 0");
+}
+
+#[test]
+fn wrapper_and_archive_belong_together() {
+    assert_eq!(version(), VERSION);
 }

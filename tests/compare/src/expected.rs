@@ -16,7 +16,7 @@ use crate::told::{report, Call, Told};
 /// The driver's large buffers.
 const LARGE: usize = 40_000;
 /// So many numbers of the report are told.
-const WHOLE: usize = 4;
+const WHOLE: usize = 5;
 
 /// Where a fault lies.
 const SCHEME: usize = 1;
@@ -51,7 +51,7 @@ impl Refused {
     }
 
     fn told(self, call: Call, lent: usize) -> Told {
-        Told::new(call, self.number, report([self.place, self.at, 0, 0], lent))
+        Told::new(call, self.number, report([self.place, self.at, 0, 0, 0], lent))
     }
 }
 
@@ -101,12 +101,12 @@ fn check(case: &Case, content: &Content, told: &mut Vec<Told>) {
     let lent = case.room % 6;
     let call = Call::CheckScheme { report: lent };
     told.push(match &content.scheme {
-        Ok(_) => Told::new(call, 0, report([0, case.scheme.len(), 0, 0], lent)),
+        Ok(_) => Told::new(call, 0, report([0, case.scheme.len(), 0, 0, 0], lent)),
         Err(refused) => refused.told(call, lent),
     });
     let call = Call::CheckMatrix;
     told.push(match &content.matrix {
-        Ok(_) => Told::new(call, 0, report([0, case.matrix.len(), 0, 0], WHOLE)),
+        Ok(_) => Told::new(call, 0, report([0, case.matrix.len(), 0, 0, 0], WHOLE)),
         Err(refused) => refused.told(call, WHOLE),
     });
 }
@@ -116,7 +116,7 @@ fn written(call: Call, bytes: &Result<Vec<u8>, Refused>, at: usize, lent: usize)
     let refused = match bytes {
         Ok(bytes) => match at.checked_add(bytes.len()) {
             Some(next) if next <= lent => {
-                let told = Told::new(call, 0, report([0, 0, 0, next], WHOLE));
+                let told = Told::new(call, 0, report([0, 0, 0, next, 0], WHOLE));
                 return told.out(stored(at, bytes));
             }
             _ => Refused::too_short(OUTPUT),

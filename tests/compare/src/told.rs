@@ -76,12 +76,12 @@ impl fmt::Display for Call {
     }
 }
 
-/// The numbers of a report: four are told, and the driver has two more as a guard.
-pub const REPORT: usize = 6;
+/// The numbers of a report: five are told, and the driver has two more as a guard.
+pub const REPORT: usize = 7;
 const UNTOLD: u64 = 0xA5A5_A5A5_A5A5_A5A5;
 
 /// The report's numbers where so many are lent.
-pub fn report(told: [usize; 4], lent: usize) -> [u64; REPORT] {
+pub fn report(told: [usize; 5], lent: usize) -> [u64; REPORT] {
     let mut report = [UNTOLD; REPORT];
     for (place, number) in told.into_iter().enumerate().take(lent) {
         report[place] = number as u64;
@@ -103,8 +103,9 @@ impl Told {
             "the position",
             "how many answers",
             "how many bytes",
-            "the report's fifth number",
+            "the record's number",
             "the report's sixth number",
+            "the report's seventh number",
         ];
         numbers.extend(names.into_iter().zip(report));
         Told { call, numbers }

@@ -1,4 +1,4 @@
-//! The independent reference program: written from the outline alone, so that comparing it with the project's code finds errors in either.
+//! The independent reference program: written from the outline and the decided points of docs/DECISIONS.md, and not from the project's code, so that comparing the two finds errors in either.
 
 pub mod bytes;
 pub mod convert;

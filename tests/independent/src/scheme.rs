@@ -50,7 +50,20 @@ pub enum Operation {
 
 impl Scheme {
     pub fn is_subject_type(&self, kind: u8) -> bool {
-        self.subjects >> kind & 1 == 1
+        is_subject_type(self.subjects, kind)
+    }
+}
+
+/// Whether a set of subject types has a type, of any number.
+pub fn is_subject_type(subjects: u16, kind: u8) -> bool {
+    let above = subjects.checked_shr(kind.into());
+    above.is_some_and(|above| above & 1 == 1)
+}
+
+impl Test {
+    /// Its four bytes.
+    pub fn fields(self) -> [u8; 4] {
+        [u8::from(self.present), self.right, self.row, self.column]
     }
 }
 
@@ -69,6 +82,17 @@ impl Operation {
             Operation::Create { .. } => 3,
             Operation::Destroy { .. } => 4,
         }
+    }
+
+    /// Its four bytes.
+    pub fn fields(self) -> [u8; 4] {
+        let (right, row, column) = match self {
+            Operation::Enter { right, row, column } => (right, row, column),
+            Operation::Delete { right, row, column } => (right, row, column),
+            Operation::Create { parameter } => (0, parameter, 0),
+            Operation::Destroy { parameter } => (0, parameter, 0),
+        };
+        [self.code(), right, row, column]
     }
 }
 
@@ -117,6 +141,11 @@ pub fn find_scheme(input: &[u8]) -> Result<(Scheme, usize), Found> {
     }
     must(at == input.len(), Fault::SchemeLeftover, at)?;
     Ok((scheme, at))
+}
+
+/// One command's record alone, against the head of a scheme.
+pub fn find_command(input: &[u8], scheme: &Scheme) -> Result<Command, Found> {
+    read_command(Record::read(input, 0, COMMAND)?, scheme)
 }
 
 fn read_command(mut record: Record, scheme: &Scheme) -> Result<Command, Found> {
@@ -262,17 +291,11 @@ fn command_body(command: &Command) -> Vec<u8> {
     body.extend(&command.parameters);
     body.push(command.tests.len() as u8);
     for test in &command.tests {
-        body.extend([u8::from(test.present), test.right, test.row, test.column]);
+        body.extend(test.fields());
     }
     body.push(command.operations.len() as u8);
     for operation in &command.operations {
-        let (right, row, column) = match *operation {
-            Operation::Enter { right, row, column } => (right, row, column),
-            Operation::Delete { right, row, column } => (right, row, column),
-            Operation::Create { parameter } => (0, parameter, 0),
-            Operation::Destroy { parameter } => (0, parameter, 0),
-        };
-        body.extend([operation.code(), right, row, column]);
+        body.extend(operation.fields());
     }
     body
 }

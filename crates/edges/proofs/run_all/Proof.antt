@@ -1,4 +1,4 @@
--- `edges::run_all` is safe and ends: what is left of the input is shorter after each case.
+-- `edges::run_all` is safe and ends: there are only so many cases.
 -- Assumes nothing.
 use mathlib.Core.Path.{_≡_}
 use lib.ListN.{length}
@@ -7,64 +7,61 @@ use Rattle.edges.proofs.run_all.Statement.{statement}
 use Rattle.edges.proofs.run_all.Tie as tie
 
 abbrev Inv-loop : tie.InvT-loop
-Inv-loop input cells₀ s₀ th₀ rest₀ t7 cells s th rest = length cells ≡ length cells₀
+Inv-loop case₀ cells₀ space₀ s₀ th₀ left₀ case cells space s th left = (length case ≡ length case₀) × (length cells ≡ length cells₀) × (length space ≡ length space₀)
 
 abbrev μ-loop : tie.MeasureT-loop
-μ-loop input cells₀ s₀ th₀ rest₀ t7 cells s th rest = length rest
+μ-loop case₀ cells₀ space₀ s₀ th₀ left₀ case cells space s th left = left
 
 no-scheme-requires : tie.Need-no-scheme-requires Inv-loop μ-loop
 no-scheme-requires c κs = search needs
 
+no-things-requires : tie.Need-no-things-requires Inv-loop μ-loop
+no-things-requires c κs = search needs
+
 loop-holds : tie.Need-loop-holds Inv-loop μ-loop
 loop-holds c = search needs
 
-case-len-requires : tie.Need-case-len-requires Inv-loop μ-loop
-case-len-requires c κs = search needs
+next-requires : tie.Need-next-requires Inv-loop μ-loop
+next-requires c κs = search needs
 
 same-length : tie.Need-same-length Inv-loop μ-loop
 same-length c = search needs
 
+same-length-2 : tie.Need-same-length-2 Inv-loop μ-loop
+same-length-2 c = search needs
+
+same-length-3 : tie.Need-same-length-3 Inv-loop μ-loop
+same-length-3 c = search needs
+
 returns : tie.Need-returns Inv-loop μ-loop
 returns c = search needs
 
-one-at-requires : tie.Need-one-at-requires Inv-loop μ-loop
-one-at-requires c κs = search needs
+task-requires : tie.Need-task-requires Inv-loop μ-loop
+task-requires c κs = search needs
 
-cast-body : tie.Need-cast-body Inv-loop μ-loop
-cast-body c = search needs
+lend-requires : tie.Need-lend-requires Inv-loop μ-loop
+lend-requires c κs = search needs
 
-body-requires : tie.Need-body-requires Inv-loop μ-loop
-body-requires c κs = search needs
-
-write-all-requires : tie.Need-write-all-requires Inv-loop μ-loop
-write-all-requires c κs = search needs
-
-next-scheme-requires : tie.Need-next-scheme-requires Inv-loop μ-loop
-next-scheme-requires c κs = search needs
-
-next-things-requires : tie.Need-next-things-requires Inv-loop μ-loop
-next-things-requires c κs = search needs
-
-slice-aggregate-write-all : tie.Need-slice-aggregate-write-all Inv-loop μ-loop
-slice-aggregate-write-all c = search needs
-
-write-all-requires-2 : tie.Need-write-all-requires-2 Inv-loop μ-loop
-write-all-requires-2 c κs = search needs
-
-sub-rest : tie.Need-sub-rest Inv-loop μ-loop
-sub-rest c = search needs
-
-part-rest-start : tie.Need-part-rest-start Inv-loop μ-loop
-part-rest-start c = search needs
-
-part-rest-end : tie.Need-part-rest-end Inv-loop μ-loop
-part-rest-end c = search needs
+sub-left : tie.Need-sub-left Inv-loop μ-loop
+sub-left c = search needs
 
 loop-less : tie.Need-loop-less Inv-loop μ-loop
 loop-less c = search needs
 
 loop-again : tie.Need-loop-again Inv-loop μ-loop
 loop-again c = search needs
+
+same-length-4 : tie.Need-same-length-4 Inv-loop μ-loop
+same-length-4 c = search needs
+
+same-length-5 : tie.Need-same-length-5 Inv-loop μ-loop
+same-length-5 c = search needs
+
+same-length-6 : tie.Need-same-length-6 Inv-loop μ-loop
+same-length-6 c = search needs
+
+returns-2 : tie.Need-returns-2 Inv-loop μ-loop
+returns-2 c = search needs
 
 pub run-all-spec : {M : Type 1} → statement M
 run-all-spec =
@@ -73,20 +70,19 @@ run-all-spec =
     Inv-loop
     μ-loop
     no-scheme-requires
+    no-things-requires
     loop-holds
-    case-len-requires
+    next-requires
     same-length
+    same-length-2
+    same-length-3
     returns
-    one-at-requires
-    cast-body
-    body-requires
-    write-all-requires
-    next-scheme-requires
-    next-things-requires
-    slice-aggregate-write-all
-    write-all-requires-2
-    sub-rest
-    part-rest-start
-    part-rest-end
+    task-requires
+    lend-requires
+    sub-left
     loop-less
-    loop-again)
+    loop-again
+    same-length-4
+    same-length-5
+    same-length-6
+    returns-2)

@@ -77,14 +77,14 @@ fn not_run(refused: Refused, call: Call) -> Told {
     refused.told(call, WHOLE).answers(UNTOUCHED).out(UNTOUCHED)
 }
 
-/// A list that was carried out, to its end or to a record that can't be read.
+/// A list that was carried out, to its end or to a record that can't be read: the call's own number is 0 either way.
 pub fn ran(call: Call, answers: &[u8], bytes: &[u8], ending: Option<Found>) -> Told {
-    let (number, place, at) = match ending {
-        Some(found) => (found.fault.number(), REQUESTS, found.at),
+    let (place, at, record) = match ending {
+        Some(found) => (REQUESTS, found.at, usize::from(found.fault.number())),
         None => (0, 0, 0),
     };
-    let report = report([place, at, answers.len(), bytes.len()], WHOLE);
-    Told::new(call, number, report)
+    let report = report([place, at, answers.len(), bytes.len(), record], WHOLE);
+    Told::new(call, 0, report)
         .answers(stored(0, answers))
         .out(stored(0, bytes))
 }

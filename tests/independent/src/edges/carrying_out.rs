@@ -1,6 +1,7 @@
 //! Requests and lists of them: 10 to 17 at their edges, a matrix that is full, seats that are taken again, and 9 and bad records of a list.
 
 use super::examples::{changed, key_matrix, key_scheme, KEY_MATRIX, LOAD, RETIRE};
+use super::tasks::Ask;
 use super::{case, Case, Task};
 use crate::matrix::{write_matrix, Matrix};
 use crate::request::write_request;
@@ -12,15 +13,15 @@ pub fn cases() -> Vec<Case> {
 
 fn ask(label: &str, command: u8, ids: &[u16]) -> Case {
     let ids = ids.to_vec();
-    case(label, Task::Request { command, ids })
+    case(label, Task::Request(Ask { command, ids }))
 }
 
 fn totals(label: &str) -> Case {
     case(label, Task::Totals)
 }
 
-fn write(label: &str, room: u16) -> Case {
-    case(label, Task::WriteMatrix { room })
+fn write(label: &str, room: u64) -> Case {
+    case(label, Task::WriteMatrix(room))
 }
 
 /// The outline's requests in its order; then other edges of 11 to 14.
@@ -162,49 +163,54 @@ fn destroys() -> Vec<Case> {
     ]
 }
 
+/// Lists that end, and lists that end with a record that can't be read, with just enough room for the answers, with more and with less.
 fn lists() -> Vec<Case> {
-    let requests = |ids: &[(u8, &[u16])]| -> Vec<u8> {
-        let record = |&(command, ids): &(u8, &[u16])| write_request(command, ids).expect("few ids");
-        ids.iter().flat_map(record).collect()
-    };
-    let run = |label: &str, list: &[u8], room: u16| {
-        let list = list.to_vec();
-        case(label, Task::List { list, room })
-    };
     let three = requests(&[(LOAD, &[9, 12]), (RETIRE, &[5, 9]), (LOAD, &[9, 12])]);
-    let two = &three[..20];
-    let behind = |bytes: &[u8]| [two, bytes].concat();
-    vec![
-        key_scheme("key-scheme-of-lists"),
-        key_matrix("key-matrix-of-lists"),
+    let behind = |bytes: &[u8]| [&three[..20], bytes].concat();
+    let refusals = requests(&[
+        (2, &[]),
+        (RETIRE, &[]),
+        (RETIRE, &[0, 9]),
+        (RETIRE, &[9, 9]),
+        (LOAD, &[9, 12]),
+        (RETIRE, &[5, 9]),
+    ]);
+    let lists = [
         run("list-empty", &[], 0),
         run("list-empty-room-3", &[], 3),
         run("list-short", &three, 2),
-        totals("list-short-totals"),
         run("list-of-three", &three, 3),
-        totals("list-of-three-totals"),
-        run("list-of-three-again", &three, 5),
-        key_matrix("key-matrix-of-bad-lists"),
+        run("list-of-three-room-5", &three, 5),
         run("list-bad-short", &behind(&[0]), 1),
-        totals("list-bad-short-totals"),
         run("list-bad-front", &behind(&[6, 0, 6]), 2),
-        totals("list-bad-front-totals"),
         run("list-bad-kind", &behind(&[2, 0, 5, 0, 0, 0]), 2),
         run("list-bad-leftover", &behind(&[3, 0, 6, 0, 0, 0, 0]), 4),
         run("list-bad-nine-ids", &behind(&[2, 0, 6, 0, 0, 9]), 2),
         run("list-bad-body", &behind(&[3, 0, 6, 0, 0, 0]), 2),
         run("list-bad-first", &[1, 2, 3], 0),
-        run(
-            "list-all-refusals",
-            &requests(&[
-                (2, &[]),
-                (RETIRE, &[]),
-                (RETIRE, &[0, 9]),
-                (RETIRE, &[9, 9]),
-                (LOAD, &[9, 12]),
-                (RETIRE, &[5, 9]),
-            ]),
-            6,
-        ),
+        run("list-all-refusals", &refusals, 6),
+    ];
+    let mut cases = vec![key_scheme("key-scheme-of-lists")];
+    cases.extend(lists.concat());
+    cases
+}
+
+fn requests(ids: &[(u8, &[u16])]) -> Vec<u8> {
+    let record = |&(command, ids): &(u8, &[u16])| write_request(command, ids).expect("few ids");
+    ids.iter().flat_map(record).collect()
+}
+
+/// The key example's matrix, the list on it, and the totals after it; then the same with no answers stored.
+fn run(label: &str, list: &[u8], room: u64) -> Vec<Case> {
+    let named = |end: &str| format!("{label}-{end}");
+    let list = list.to_vec();
+    let quietly = Task::ListQuietly(list.clone());
+    vec![
+        key_matrix(&named("matrix")),
+        case(label, Task::List { list, room }),
+        totals(&named("totals")),
+        key_matrix(&named("matrix-again")),
+        case(named("quietly"), quietly),
+        totals(&named("quietly-totals")),
     ]
 }

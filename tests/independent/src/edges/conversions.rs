@@ -1,6 +1,7 @@
 //! Conversions: 20, 21, 22 and 9 at their edges and in their order, the key example, and the largest that convert.
 
 use super::examples::{KEY_MATRIX, KEY_SCHEME, LOAD, RETIRE};
+use super::tasks::Ask;
 use super::{case, largest, Case, Task};
 use crate::convert::{check, convert_matrix, convert_scheme};
 use crate::matrix::{read_matrix, write_matrix, Matrix};
@@ -80,35 +81,37 @@ fn matrix(scheme: &Scheme) -> Matrix {
     matrix
 }
 
-/// Scheme and matrix read, then converted: into just enough and into a byte less, or, where that is refused, into nothing, since 9 comes last.
+/// Scheme and matrix read, then converted: as bytes, and as values, which are then written.
 fn converted(label: &str, scheme: &Scheme, matrix: &Matrix) -> Vec<Case> {
+    let (scheme_read, matrix_read) = (write_scheme(scheme), write_matrix(matrix, scheme));
+    let named = |end: &str, task: Task| case(format!("{label}-{end}"), task);
     let mut cases = vec![
-        case(
-            format!("{label}-scheme-read"),
-            Task::ReadScheme(write_scheme(scheme)),
-        ),
-        case(
-            format!("{label}-matrix-read"),
-            Task::ReadMatrix(write_matrix(matrix, scheme)),
-        ),
+        named("scheme-read", Task::ReadScheme(scheme_read)),
+        named("matrix-read", Task::ReadMatrix(matrix_read)),
     ];
-    let to_scheme =
-        |end: &str, room: u16| case(format!("{label}-scheme{end}"), Task::ConvertScheme { room });
-    let to_matrix =
-        |end: &str, room: u16| case(format!("{label}-matrix{end}"), Task::ConvertMatrix { room });
-    if check(scheme) != 0 {
-        cases.extend([to_scheme("", 0), to_matrix("", 0)]);
-        return cases;
+    for (end, [scheme_room, matrix_room]) in rooms(scheme, matrix) {
+        let to_scheme = Task::ConvertScheme(scheme_room);
+        let to_matrix = Task::ConvertMatrix(matrix_room);
+        cases.push(named(&format!("scheme{end}"), to_scheme));
+        cases.push(named(&format!("matrix{end}"), to_matrix));
     }
-    let (new_scheme, new_matrix) = bytes(scheme, matrix);
-    let (scheme_room, matrix_room) = (new_scheme.len() as u16, new_matrix.len() as u16);
     cases.extend([
-        to_scheme("", scheme_room),
-        to_scheme("-short", scheme_room - 1),
-        to_matrix("", matrix_room),
-        to_matrix("-short", matrix_room - 1),
+        named("cells-where-they-lie", Task::ConvertedCells),
+        named("scheme-as-value", Task::ConvertedScheme),
+        named("scheme-after", Task::WriteScheme(7_000)),
+        named("matrix-after", Task::WriteMatrix(38_000)),
     ]);
     cases
+}
+
+/// Just enough and a byte less; where the conversion is refused enough and nothing, since 9 comes last.
+fn rooms(scheme: &Scheme, matrix: &Matrix) -> [(&'static str, [u64; 2]); 2] {
+    if check(scheme) != 0 {
+        return [("", [300, 300]), ("-no-room", [0, 0])];
+    }
+    let (new_scheme, new_matrix) = bytes(scheme, matrix);
+    let just = [new_scheme.len() as u64, new_matrix.len() as u64];
+    [("", just), ("-short", just.map(|room| room - 1))]
 }
 
 /// The converted scheme's and the converted matrix's bytes.
@@ -127,7 +130,7 @@ fn key_example() -> Vec<Case> {
     let (new_scheme, new_matrix) = bytes(&scheme, &matrix);
     let ask = |label: &str, command: u8, ids: [u16; 2]| {
         let ids = ids.to_vec();
-        case(label, Task::Request { command, ids })
+        case(label, Task::Request(Ask { command, ids }))
     };
     cases.extend([
         case("robot-scheme", Task::ReadScheme(new_scheme)),
@@ -135,12 +138,9 @@ fn key_example() -> Vec<Case> {
         ask("robot-load", LOAD, [9, 12]),
         ask("robot-retire", RETIRE, [5, 9]),
         ask("robot-load-after", LOAD, [9, 12]),
-        case("robot-matrix-after", Task::WriteMatrix { room: 123 }),
+        case("robot-matrix-after", Task::WriteMatrix(123)),
         case("robot-totals", Task::Totals),
-        case(
-            "robot-scheme-converted-twice",
-            Task::ConvertScheme { room: 100 },
-        ),
+        case("robot-scheme-converted-twice", Task::ConvertScheme(100)),
     ]);
     cases
 }

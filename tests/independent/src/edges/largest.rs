@@ -1,5 +1,6 @@
 //! The largest scheme, 6,633 bytes, and the largest matrix, 37,206 bytes: read, written into just enough and into a byte less, counted, asked.
 
+use super::tasks::Ask;
 use super::{case, Case, Task};
 use crate::matrix::{write_matrix, Matrix, MOST_THINGS};
 use crate::scheme::{write_scheme, Command, Operation, Scheme, Test};
@@ -46,7 +47,7 @@ pub fn cases() -> Vec<Case> {
     let matrix = write_matrix(&matrix(&scheme, |_, _| u64::MAX), &scheme);
     let ask = |label: &str, command: u8, ids: &[u16]| {
         let ids = ids.to_vec();
-        case(label, Task::Request { command, ids })
+        case(label, Task::Request(Ask { command, ids }))
     };
     let eight = [1, 2, 3, 4, 5, 6, 7, 8];
     vec![
@@ -54,17 +55,21 @@ pub fn cases() -> Vec<Case> {
             "largest-scheme-read",
             Task::ReadScheme(write_scheme(&scheme)),
         ),
-        case("largest-scheme", Task::WriteScheme { room: 6_633 }),
-        case("largest-scheme-short", Task::WriteScheme { room: 6_632 }),
+        case("largest-scheme", Task::WriteScheme(6_633)),
+        case("largest-scheme-short", Task::WriteScheme(6_632)),
         case("largest-matrix-read", Task::ReadMatrix(matrix)),
-        case("largest-matrix", Task::WriteMatrix { room: 37_206 }),
-        case("largest-matrix-short", Task::WriteMatrix { room: 37_205 }),
+        case("largest-matrix", Task::WriteMatrix(37_206)),
+        case("largest-matrix-short", Task::WriteMatrix(37_205)),
+        case("largest-matrix-by-head", Task::WriteMatrixByHead(37_206)),
+        case("largest-by-head-short", Task::WriteMatrixByHead(37_205)),
+        case("largest-accepted", Task::Accepted),
+        case("largest-command", Task::CommandAccepted(31)),
         case("largest-totals", Task::Totals),
         ask("command-32-of-32", 32, &eight),
         ask("command-255-of-32", 255, &eight),
         ask("seven-ids-of-eight", 31, &eight[..7]),
         ask("nine-ids-of-eight", 31, &[1; 9]),
-        ask("32-ids-of-eight", 31, &[1; 32]),
+        ask("ten-ids-of-eight", 31, &[1; 10]),
         ask("command-31-of-32", 31, &eight),
         ask("command-31-its-right-gone", 31, &eight),
         ask("command-31-one-thing-eight-times", 31, &[9; 8]),

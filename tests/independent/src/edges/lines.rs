@@ -1,195 +1,273 @@
-//! What each case must print: the answers of this program's own readers, writers, conversion and literal engine.
+//! What each case must print: the answers of this program's own readers, writers, conversion and literal engine, on the values that the cases have
+//! made so far.
 
-use super::{Case, Task};
-use crate::bytes::store;
+use super::asked;
+use super::said::{Given, Said};
+use super::seats::{Seats, CELLS};
+use super::sums;
+use super::tasks::{Ask, Task};
+use super::values::SchemeValue;
+use super::Case;
 use crate::convert::{convert_matrix, convert_scheme};
 use crate::engine::carry_out;
 use crate::matrix::{read_matrix, write_matrix, Matrix};
 use crate::refusal::Refusal;
-use crate::request::{read_request, write_request, Next};
+use crate::request::{read_request, Next};
 use crate::scheme::{read_scheme, write_scheme, Scheme};
 
-/// A case's line, and its refusal number: 0 for success.
-#[derive(Clone, Debug, PartialEq, Eq)]
+/// A case's line, and what its functions gave.
+#[derive(Clone, Debug)]
 pub struct Line {
-    pub label: String,
-    pub number: u8,
+    pub given: Vec<Given>,
     pub text: String,
 }
 
 pub fn told(cases: &[Case]) -> Vec<Line> {
-    let mut state = State::default();
-    let line = |case: &Case| {
-        let (number, words) = state.told(&case.task);
-        let label = case.label.clone();
-        let text = format!("{label}{words}");
-        Line {
-            label,
-            number,
-            text,
-        }
+    let mut state = State {
+        scheme: SchemeValue::none(),
+        seats: Seats::none(),
     };
-    cases.iter().map(line).collect()
+    cases.iter().map(|case| state.line(case)).collect()
 }
 
-/// No scheme stands for one that no reading gives.
-#[derive(Default)]
+/// The scheme and the matrix that the cases share, as values that may be strangers.
 struct State {
-    scheme: Option<Scheme>,
-    matrix: Matrix,
+    scheme: SchemeValue,
+    seats: Seats,
 }
 
 impl State {
-    fn told(&mut self, task: &Task) -> (u8, String) {
+    /// Behind the answer stands the sum of the matrix: of a refused call as it was.
+    fn line(&mut self, case: &Case) -> Line {
+        let said = self.say(&case.task, case.cells as usize);
+        let text = format!("{}{} {}", case.label, said.words, self.seats.sum());
+        let given = said.given;
+        Line { given, text }
+    }
+
+    fn say(&mut self, task: &Task, lent: usize) -> Said {
         match task {
-            Task::ReadScheme(bytes) => reading(self.read_scheme(bytes)),
-            Task::ReadMatrix(bytes) => reading(self.read_matrix(bytes)),
-            Task::ReadRequest { list, at } => match read_request(list, *at as usize) {
-                Next::Request { next, .. } => reading(Ok(next)),
-                Next::End => (0, String::from(" end")),
-                Next::Refused(refusal) => reading(Err(refusal)),
-            },
-            Task::WriteScheme { room } => {
-                let bytes = self.scheme().map(|scheme| write_scheme(&scheme));
-                writing(bytes, 0, *room)
+            Task::ReadScheme(bytes) => {
+                Said::default().reading("scheme_bytes::read_scheme", self.read_scheme(bytes))
             }
-            Task::WriteMatrix { room } => {
-                let bytes = self.both();
-                let bytes = bytes.map(|(scheme, matrix)| write_matrix(&matrix, &scheme));
-                writing(bytes, 0, *room)
-            }
-            Task::WriteRequest {
-                room,
-                at,
-                command,
-                ids,
-            } => writing(write_request(*command, ids), *at as usize, *room),
             Task::NoScheme => {
-                self.scheme = None;
-                (0, String::new())
+                self.scheme = SchemeValue::none();
+                let given = vec![("scheme_bytes::no_scheme", 0)];
+                let words = String::new();
+                Said { given, words }
             }
-            Task::ConvertScheme { room } => writing(self.converted_scheme(), 0, *room),
-            Task::ConvertMatrix { room } => writing(self.converted_matrix(), 0, *room),
-            Task::Request { command, ids } => {
-                let number = self.request(*command, ids).unwrap_or_else(|number| number);
-                (number, format!(" {number}"))
+            Task::SetHead(n, m, subjects, count) => {
+                let head = (*n, *m, *subjects, *count);
+                let scheme = &mut self.scheme;
+                (scheme.rights, scheme.types, scheme.subjects, scheme.count) = head;
+                Said::default()
             }
-            Task::List { list, room } => self.list(list, *room),
-            Task::Totals => self.totals(),
+            Task::SetCommand(set) => {
+                self.scheme.set(set);
+                Said::default()
+            }
+            Task::ConvertedScheme => {
+                let number = self.convert_scheme().err().unwrap_or(0);
+                Said::default().gave("convert::converted_scheme", number)
+            }
+            _ => self.say_of_matrix(task, lent),
+        }
+    }
+
+    /// The tasks that are lent the cells to be changed.
+    fn say_of_matrix(&mut self, task: &Task, lent: usize) -> Said {
+        let said = Said::default();
+        match task {
+            Task::ReadMatrix(bytes) => {
+                let answer = self.read_matrix(bytes, self.scheme(), lent);
+                said.reading("matrix_bytes::read_matrix", answer)
+            }
+            Task::ReadMatrixByHead(bytes) => {
+                let answer = self.read_matrix(bytes, self.head(), lent);
+                said.reading("matrix_bytes::read_matrix_by_head", answer)
+            }
+            Task::SetThing { seat, id, kind } => {
+                self.seats.set_thing((*seat).into(), *id, *kind);
+                said
+            }
+            Task::SetCell { place, rights } => {
+                self.seats.set_cell((*place).into(), *rights);
+                said
+            }
+            Task::ConvertedCells => {
+                let number = self.convert_cells(lent).err().unwrap_or(0);
+                said.gave("convert::converted_cells", number)
+            }
+            Task::Request(ask) => {
+                let number = self.request(ask, lent).unwrap_or_else(|number| number);
+                said.gave("engine::request", number)
+            }
+            Task::List { list, room } => self.list(list, *room, lent),
+            Task::ListQuietly(list) => match self.matrix(self.scheme(), lent) {
+                Ok(_) => {
+                    let ran = self.run(list);
+                    ended(said, "engine::run_quietly", ran)
+                }
+                Err(number) => said.gave("engine::run_quietly", number),
+            },
+            _ => self.say_of_output(task, lent),
+        }
+    }
+
+    /// The tasks that write into a lent buffer.
+    fn say_of_output(&self, task: &Task, lent: usize) -> Said {
+        let write = |function, bytes, room: &u64| Said::default().writing(function, bytes, 0, *room);
+        let written = |of: Result<Scheme, u8>| {
+            let scheme = of?;
+            Ok(write_matrix(&self.matrix(Ok(scheme.clone()), lent)?, &scheme))
+        };
+        match task {
+            Task::WriteScheme(room) => {
+                let bytes = self.scheme().map(|scheme| write_scheme(&scheme));
+                write("scheme_write::write_scheme", bytes, room)
+            }
+            Task::ConvertScheme(room) => {
+                let converted = self.scheme().and_then(|scheme| convert_scheme(&scheme));
+                let bytes = converted.map(|scheme| write_scheme(&scheme));
+                write("convert::convert_scheme", bytes, room)
+            }
+            Task::WriteMatrix(room) => {
+                write("matrix_write::write_matrix", written(self.scheme()), room)
+            }
+            Task::WriteMatrixByHead(room) => {
+                let bytes = written(self.head());
+                write("matrix_write::write_matrix_by_head", bytes, room)
+            }
+            Task::ConvertMatrix(room) => {
+                write("convert::convert_matrix", self.converted(lent), room)
+            }
+            Task::Store(store) => Said::default().store(store),
+            _ => asked::say(task, &self.scheme, &self.seats, lent),
+        }
+    }
+
+    /// The scheme, or 27.
+    fn scheme(&self) -> Result<Scheme, u8> {
+        self.scheme.scheme().ok_or(27)
+    }
+
+    /// A scheme of the head alone, or 27.
+    fn head(&self) -> Result<Scheme, u8> {
+        match self.scheme.head_fault() {
+            0 => Ok(self.scheme.head()),
+            _ => Err(27),
+        }
+    }
+
+    /// The matrix of a scheme, or 27.
+    fn matrix(&self, scheme: Result<Scheme, u8>, lent: usize) -> Result<Matrix, u8> {
+        let scheme = scheme?;
+        match self.seats.accepted(&scheme, lent) {
+            true => Ok(self.seats.matrix(&scheme)),
+            false => Err(27),
         }
     }
 
     fn read_scheme(&mut self, bytes: &[u8]) -> Result<usize, Refusal> {
         let (scheme, next) = read_scheme(bytes)?;
-        self.scheme = Some(scheme);
+        self.scheme = SchemeValue::of(&scheme);
         Ok(next)
     }
 
-    fn read_matrix(&mut self, bytes: &[u8]) -> Result<usize, Refusal> {
-        let strange = Refusal { number: 27, at: 0 };
-        let scheme = self.scheme.as_ref().ok_or(strange)?;
-        self.matrix = read_matrix(bytes, scheme)?;
+    fn read_matrix(
+        &mut self,
+        bytes: &[u8],
+        scheme: Result<Scheme, u8>,
+        lent: usize,
+    ) -> Result<usize, Refusal> {
+        let stranger = Refusal { number: 27, at: 0 };
+        let scheme = scheme.map_err(|_| stranger)?;
+        if lent != CELLS {
+            return Err(stranger);
+        }
+        self.seats.read(&read_matrix(bytes, &scheme)?);
         Ok(bytes.len())
     }
 
-    fn scheme(&self) -> Result<Scheme, u8> {
-        self.scheme.clone().ok_or(27)
-    }
-
-    /// A matrix is one of this scheme exactly if its bytes read so; cells that exist there and were not in the scheme it was read with are empty.
-    fn both(&self) -> Result<(Scheme, Matrix), u8> {
-        let scheme = self.scheme()?;
-        let bytes = write_matrix(&self.matrix, &scheme);
-        match read_matrix(&bytes, &scheme) {
-            Ok(matrix) => Ok((scheme, matrix)),
-            Err(_) => Err(27),
-        }
-    }
-
-    fn converted_scheme(&self) -> Result<Vec<u8>, u8> {
+    fn convert_scheme(&mut self) -> Result<(), u8> {
         let converted = convert_scheme(&self.scheme()?)?;
-        Ok(write_scheme(&converted))
+        self.scheme = SchemeValue::of(&converted);
+        Ok(())
     }
 
-    fn converted_matrix(&self) -> Result<Vec<u8>, u8> {
-        let (scheme, matrix) = self.both()?;
+    fn convert_cells(&mut self, lent: usize) -> Result<(), u8> {
+        let scheme = self.scheme()?;
+        let matrix = self.matrix(Ok(scheme.clone()), lent)?;
+        self.seats.fill(&convert_matrix(&matrix, &scheme)?);
+        Ok(())
+    }
+
+    /// The converted matrix's bytes.
+    fn converted(&self, lent: usize) -> Result<Vec<u8>, u8> {
+        let scheme = self.scheme()?;
+        let matrix = self.matrix(Ok(scheme.clone()), lent)?;
         let converted = convert_matrix(&matrix, &scheme)?;
         Ok(write_matrix(&converted, &convert_scheme(&scheme)?))
     }
 
-    fn request(&mut self, command: u8, ids: &[u16]) -> Result<u8, u8> {
-        let (scheme, mut matrix) = self.both()?;
-        let number = carry_out(&scheme, &mut matrix, command as usize, ids);
-        self.matrix = matrix;
+    fn request(&mut self, ask: &Ask, lent: usize) -> Result<u8, u8> {
+        let scheme = self.scheme()?;
+        let mut matrix = self.matrix(Ok(scheme.clone()), lent)?;
+        let number = carry_out(&scheme, &mut matrix, ask.command.into(), &ask.ids);
+        if number == 0 {
+            let command = &scheme.commands[usize::from(ask.command)];
+            self.seats.step(&command.operations, &ask.ids, &matrix);
+        }
         Ok(number)
     }
 
-    /// The count of requests and the sum of the answers, between them the number and position of a record that can't be read. A list that is
-    /// refused has its number and 0 instead.
-    fn list(&mut self, list: &[u8], room: u16) -> (u8, String) {
-        let mut out = vec![0; room as usize];
-        let (requests, end) = requests(list);
-        let short = out.len() < requests.len();
-        let refused = self.both().err().or(short.then_some(9));
-        if let Some(number) = refused {
-            return (number, format!(" {number} 0 {}", sum(&out)));
-        }
-        for (answer, (command, ids)) in out.iter_mut().zip(&requests) {
-            *answer = self.request(*command, ids).expect("the matrix stays one");
-        }
-        let (count, sum) = (requests.len(), sum(&out));
-        match end {
-            None => (0, format!(" {count} {sum}")),
-            Some(Refusal { number, at }) => (number, format!(" {count} {number} {at} {sum}")),
-        }
+    /// The number, how many requests were answered and the position of a record that can't be read; then the sum of the answers.
+    fn list(&mut self, list: &[u8], room: u64, lent: usize) -> Said {
+        let function = "engine::run_list";
+        let said = Said::default();
+        let mut out = sums::pattern(room);
+        let count = requests(list).0.len();
+        let short = (out.len() < count).then_some(9);
+        let refused = self.matrix(self.scheme(), lent).err().or(short);
+        let said = match refused {
+            Some(number) => said.gave(function, number),
+            None => {
+                let ran = self.run(list);
+                out[..count].copy_from_slice(&ran.0);
+                ended(said, function, ran)
+            }
+        };
+        said.word(sums::bytes(&out))
     }
 
-    fn totals(&self) -> (u8, String) {
-        match self.both() {
-            Ok((_, matrix)) => {
-                let things = matrix.things().len();
-                let cells = matrix.nonempty_cells();
-                (0, format!(" {things} {cells} {}", matrix.entries()))
-            }
-            Err(number) => (number, format!(" {number}")),
-        }
+    /// The answers to a list, on a scheme and a matrix that are none of strangers, and how it ended.
+    fn run(&mut self, list: &[u8]) -> (Vec<u8>, Option<Refusal>) {
+        let (requests, end) = requests(list);
+        let mut answer = |ask| self.request(ask, CELLS).expect("the matrix stays one");
+        (requests.iter().map(&mut answer).collect(), end)
+    }
+}
+
+fn ended(said: Said, function: &'static str, ran: (Vec<u8>, Option<Refusal>)) -> Said {
+    let (answers, end) = ran;
+    match end {
+        None => said.gave(function, 0).word(answers.len()),
+        Some(Refusal { number, at }) => said.gave(function, number).word(answers.len()).word(at),
     }
 }
 
 /// The requests that can be read, and the refusal of the record behind them, if there is one.
-fn requests(list: &[u8]) -> (Vec<(u8, Vec<u16>)>, Option<Refusal>) {
+fn requests(list: &[u8]) -> (Vec<Ask>, Option<Refusal>) {
     let (mut requests, mut at) = (Vec::new(), 0);
     loop {
         match read_request(list, at) {
             Next::Request { request, next } => {
-                requests.push((request.command, request.ids));
+                let (command, ids) = (request.command, request.ids);
+                requests.push(Ask { command, ids });
                 at = next;
             }
             Next::End => return (requests, None),
             Next::Refused(refusal) => return (requests, Some(refusal)),
         }
     }
-}
-
-fn reading(answer: Result<usize, Refusal>) -> (u8, String) {
-    match answer {
-        Ok(next) => (0, format!(" 0 {next}")),
-        Err(Refusal { number, at }) => (number, format!(" {number} {at}")),
-    }
-}
-
-/// Bytes stored at a position of a buffer of zeros: the next position, or the number; then the buffer's sum.
-fn writing(bytes: Result<Vec<u8>, u8>, at: usize, room: u16) -> (u8, String) {
-    let mut out = vec![0; room as usize];
-    let stored = bytes.and_then(|bytes| store(&bytes, out.get_mut(at..).ok_or(9)?));
-    match stored {
-        Ok(count) => (0, format!(" 0 {} {}", at + count, sum(&out))),
-        Err(number) => (number, format!(" {number} {}", sum(&out))),
-    }
-}
-
-/// The bytes as one little-endian number, modulo the largest prime of 16 bits.
-fn sum(bytes: &[u8]) -> u32 {
-    let last_first = bytes.iter().rev();
-    last_first.fold(0, |sum, &byte| (sum * 256 + u32::from(byte)) % 65_521)
 }

@@ -1,7 +1,10 @@
 //! Matrices of the key example's scheme read, with single bytes changed; then its matrix written.
 
-use super::examples::{changed, key_matrix, key_scheme, Row, KEY_MATRIX};
+use super::examples::{changed, key_matrix, key_scheme, Row, KEY_MATRIX, KEY_SCHEME};
+use super::seats::MOST_CELLS;
 use super::{case, Case, Task};
+use crate::matrix::read_matrix;
+use crate::scheme::read_scheme;
 
 /// The fronts, the lengths and the head.
 const FRONTS: &[Row] = &[
@@ -59,30 +62,68 @@ const CELLS: &[Row] = &[
     ("place-same-no-rights", &[(47, 5), (49, 9), (51, 0)], 59),
 ];
 
+/// The refused ones first, all on one table that is spoiled.
 pub fn cases() -> Vec<Case> {
+    let (scheme, _) = read_scheme(&KEY_SCHEME).expect("the key example");
+    let rows = [FRONTS, THINGS, CELLS].concat();
+    let bytes = |&(_, changes, length): &Row| changed(&KEY_MATRIX, changes, length);
+    let (accepted, refused): (Vec<Row>, Vec<Row>) = rows
+        .into_iter()
+        .partition(|row| read_matrix(&bytes(row), &scheme).is_ok());
     let mut cases = vec![key_scheme("scheme-of-matrices")];
-    for (label, changes, length) in [FRONTS, THINGS, CELLS].concat() {
-        let bytes = changed(&KEY_MATRIX, changes, length);
-        cases.push(case(label, Task::ReadMatrix(bytes)));
+    cases.extend(spoiled("table"));
+    for row in &refused {
+        cases.extend(readings(row.0, bytes(row)));
+    }
+    for row in &accepted {
+        for reading in readings(row.0, bytes(row)) {
+            cases.extend(spoiled(&reading.label));
+            cases.push(reading);
+        }
     }
     cases.extend(writings());
     cases
 }
 
-/// Into more than enough, into just enough, into a byte less; after each, what the buffer then holds is read.
-fn writings() -> Vec<Case> {
-    let write = |label: &str, room: u16| case(label, Task::WriteMatrix { room });
-    let read = |label: &str, bytes: Vec<u8>| case(label, Task::ReadMatrix(bytes));
-    vec![
-        key_matrix("matrix-to-write"),
-        write("matrix-into-64", 64),
-        read("matrix-into-64-read", changed(&KEY_MATRIX, &[], 64)),
-        write("matrix-into-59", 59),
-        read("matrix-into-59-read", KEY_MATRIX.to_vec()),
-        write("matrix-into-58", 58),
-        read("matrix-into-58-read", vec![0; 58]),
-        case("no-scheme-again", Task::NoScheme),
-        read("no-scheme-no-matrix", Vec::new()),
-        write("matrix-no-scheme", 0),
+fn readings(label: &str, bytes: Vec<u8>) -> [Case; 2] {
+    let by_head = Task::ReadMatrixByHead(bytes.clone());
+    [
+        case(label, Task::ReadMatrix(bytes)),
+        case(format!("{label}-by-head"), by_head),
     ]
+}
+
+/// A table that no reading gives: a reading that is refused must leave it so, and one that isn't must leave nothing of it.
+fn spoiled(label: &str) -> Vec<Case> {
+    let thing = |seat, id, kind| {
+        let task = Task::SetThing { seat, id, kind };
+        case(format!("{label}-seat-{seat}"), task)
+    };
+    let cell = |place, rights| {
+        let task = Task::SetCell { place, rights };
+        Case {
+            cells: MOST_CELLS as u16,
+            ..case(format!("{label}-cell-{place}"), task)
+        }
+    };
+    vec![
+        thing(0, 77, 9),
+        thing(47, 77, 200),
+        cell(0, u64::MAX),
+        cell(1_151, 1),
+        cell(2_303, 1 << 63),
+        cell(2_304, 5),
+    ]
+}
+
+/// Into more than enough, into just enough, into a byte less, into nothing.
+fn writings() -> Vec<Case> {
+    let mut cases = vec![key_matrix("matrix-to-write")];
+    for room in [64, 59, 58, 0] {
+        let label = format!("matrix-into-{room}");
+        cases.push(case(label.clone(), Task::WriteMatrix(room)));
+        let by_head = Task::WriteMatrixByHead(room);
+        cases.push(case(format!("{label}-by-head"), by_head));
+    }
+    cases
 }

@@ -1,11 +1,11 @@
 //! Request records read at a position of a list, and written at a position of a buffer.
 
 use super::examples::{changed, REQUESTS};
+use super::tasks::{Ask, Store, Stored};
 use super::{case, Case, Task};
-use crate::request::write_request;
 
 /// As a row of changes, and the position that is read.
-type Place = (&'static str, &'static [(usize, u8)], usize, u16);
+type Place = (&'static str, &'static [(usize, u8)], usize, u64);
 
 const READ: &[Place] = &[
     ("two-ids", &[], 38, 0),
@@ -27,49 +27,46 @@ const READ: &[Place] = &[
     ("past-the-end", &[], 38, 39),
     ("past-an-empty-list", &[], 0, 1),
     ("far-past-the-end", &[], 38, 65_535),
+    ("as-far-as-can-be", &[], 38, u64::MAX),
 ];
 
 pub fn cases() -> Vec<Case> {
     let read = |&(label, changes, length, at): &Place| {
         let list = changed(&REQUESTS, changes, length);
-        case(label, Task::ReadRequest { list, at })
+        let skip = Task::SkipRequest {
+            list: list.clone(),
+            at,
+        };
+        [
+            case(label, Task::ReadRequest { list, at }),
+            case(format!("{label}-skipped"), skip),
+        ]
     };
-    let mut cases: Vec<Case> = READ.iter().map(read).collect();
+    let mut cases: Vec<Case> = READ.iter().flat_map(read).collect();
     cases.extend(writings());
     cases
 }
 
-/// Nine ids come before no room; a record of eight ids has 22 bytes, one of none 6. What a buffer then holds is read.
+/// Nine ids come before no room; a record of eight ids has 22 bytes, one of none 6.
 fn writings() -> Vec<Case> {
-    let write = |label: &str, ids: &[u16], at: u8, room: u16| {
-        let (command, ids) = (0, ids.to_vec());
-        case(
-            label,
-            Task::WriteRequest {
-                room,
-                at,
-                command,
-                ids,
-            },
-        )
+    let write = |label: &str, ids: &[u16], at: u64, room: u64| {
+        let (command, ids) = (7, ids.to_vec());
+        let what = Stored::Request(Ask { command, ids });
+        case(label, Task::Store(Store { room, at, what }))
     };
-    let read = |label: &str, list: Vec<u8>, at: u16| case(label, Task::ReadRequest { list, at });
-    let record = write_request(0, &[5; 8]).expect("eight ids");
-    let written = [vec![0; 10], record].concat();
     vec![
         write("write-nine-ids-into-0", &[5; 9], 0, 0),
         write("write-no-ids-into-0", &[], 0, 0),
         write("write-nine-ids-into-32", &[5; 9], 0, 32),
+        write("write-ten-ids-into-32", &[5; 10], 0, 32),
         write("write-eight-ids-at-11", &[5; 8], 11, 32),
-        read("write-eight-ids-at-11-read", vec![0; 32], 11),
         write("write-eight-ids-at-10", &[5; 8], 10, 32),
-        read("write-eight-ids-at-10-read", written.clone(), 10),
-        read("write-eight-ids-at-10-before", written, 0),
         write("write-no-ids-at-26", &[], 26, 32),
         write("write-no-ids-at-27", &[], 27, 32),
         write("write-no-ids-at-32", &[], 32, 32),
         write("write-no-ids-at-33", &[], 33, 32),
-        write("write-32-ids", &[5; 32], 0, 65_535),
+        write("write-no-ids-at-the-last", &[], u64::MAX, 32),
+        write("write-nine-ids-at-the-last", &[5; 9], u64::MAX, 32),
         write("write-ids-of-two-bytes", &[1, 256, 513, 65_535], 0, 14),
     ]
 }

@@ -119,33 +119,39 @@ const ORDER: &[Row] = &[
 
 pub fn cases() -> Vec<Case> {
     let key = [FRONTS, LENGTHS, HEAD, TESTS, OPERATIONS].concat();
-    let mut cases = read(&KEY_SCHEME, &key);
+    let mut cases = vec![key_scheme("table-of-schemes")];
+    cases.extend(read(&KEY_SCHEME, &key));
     cases.extend(read(&GROUPS, ORDER));
     cases.extend(writings());
     cases
 }
 
+/// Each reading with the table behind it written: where it was refused, the one before.
 fn read(bytes: &[u8], rows: &[Row]) -> Vec<Case> {
     let read = |&(label, changes, length): &Row| {
         let bytes = changed(bytes, changes, length);
-        case(label, Task::ReadScheme(bytes))
+        [
+            case(label, Task::ReadScheme(bytes)),
+            case(format!("{label}-table"), Task::WriteScheme(50)),
+        ]
     };
-    rows.iter().map(read).collect()
+    rows.iter().flat_map(read).collect()
 }
 
-/// Into more than enough, into just enough, into a byte less; after each, what the buffer then holds is read.
+/// Into more than enough, into just enough, into a byte less, into nothing.
 fn writings() -> Vec<Case> {
-    let write = |label: &str, room: u16| case(label, Task::WriteScheme { room });
-    let read = |label: &str, bytes: Vec<u8>| case(label, Task::ReadScheme(bytes));
+    let write = |label: &str, room: u64| case(label, Task::WriteScheme(room));
     vec![
         key_scheme("scheme-to-write"),
         write("scheme-into-64", 64),
-        read("scheme-into-64-read", changed(&KEY_SCHEME, &[], 64)),
         write("scheme-into-47", 47),
-        read("scheme-into-47-read", KEY_SCHEME.to_vec()),
         write("scheme-into-46", 46),
-        read("scheme-into-46-read", vec![0; 46]),
+        write("scheme-into-0", 0),
         case("no-scheme", Task::NoScheme),
+        write("no-scheme-into-64", 64),
         write("no-scheme-into-0", 0),
+        case("no-scheme-read", Task::ReadScheme(vec![])),
+        case("no-scheme-converted", Task::ConvertedScheme),
+        write("no-scheme-still", 64),
     ]
 }

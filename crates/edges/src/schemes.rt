@@ -1,0 +1,31 @@
+// The tasks 0 to 4, which change the scheme: it is read, set, or converted.
+use crate::case;
+use crate::print;
+use crate::values;
+use model::Scheme;
+
+fn read(b: &[u8], s: Scheme) -> Scheme {
+    let read = scheme_bytes::read_scheme(b, s);
+    let answer = read.answer;
+    print::reading(answer);
+    read.scheme
+}
+
+fn convert(s: Scheme) -> Scheme {
+    let converted = convert::converted_scheme(s);
+    let answer = converted.answer;
+    print::conversion(answer);
+    converted.scheme
+}
+
+pub(crate) fn task(case: &[u8], s: Scheme) -> Scheme {
+    let b = case::bytes(case);
+    match case::one_at(case, 0) {
+        0 => read(b, s),
+        1 => scheme_bytes::no_scheme(),
+        2 => values::head(b, s),
+        3 => values::commands(b, s),
+        4 => convert(s),
+        _ => s,
+    }
+}

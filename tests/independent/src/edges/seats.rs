@@ -1,0 +1,129 @@
+//! A matrix as the functions are handed it: 48 seats, and the cells of each two of them. What a reading gives has zeros at free seats and where no
+//! cell exists (docs/DECISIONS.md, "Values handed in"); any other value is a stranger, which is 27 everywhere.
+
+use std::collections::BTreeSet;
+
+use super::sums;
+use crate::matrix::{all_rights, Matrix, MOST_THINGS};
+use crate::scheme::{Operation, Scheme};
+
+const SEATS: usize = MOST_THINGS;
+/// How many cells a matrix has.
+pub const CELLS: usize = SEATS * SEATS;
+/// How many cells the program has, so that more can be lent than a matrix has.
+pub const MOST_CELLS: usize = 2_400;
+
+#[derive(Clone, Debug, PartialEq, Eq)]
+pub struct Seats {
+    ids: [u16; SEATS],
+    types: [u8; SEATS],
+    cells: Vec<u64>,
+}
+
+impl Seats {
+    pub fn none() -> Seats {
+        Seats {
+            ids: [0; SEATS],
+            types: [0; SEATS],
+            cells: vec![0; MOST_CELLS],
+        }
+    }
+
+    pub fn sum(&self) -> u64 {
+        sums::matrix(&self.ids, &self.types, &self.cells)
+    }
+
+    pub fn set_thing(&mut self, seat: usize, id: u16, kind: u8) {
+        self.ids[seat] = id;
+        self.types[seat] = kind;
+    }
+
+    pub fn set_cell(&mut self, place: usize, rights: u64) {
+        self.cells[place] = rights;
+    }
+
+    /// As a reading leaves it: things by rising id, from the first seat on.
+    pub fn read(&mut self, matrix: &Matrix) {
+        self.ids = [0; SEATS];
+        self.types = [0; SEATS];
+        for (seat, (&id, &kind)) in matrix.things().iter().enumerate() {
+            self.set_thing(seat, id, kind);
+        }
+        self.fill(matrix);
+    }
+
+    /// As a request leaves it: a created thing takes the first free seat, a destroyed one's seat is free again.
+    pub fn step(&mut self, operations: &[Operation], ids: &[u16], after: &Matrix) {
+        for operation in operations {
+            match *operation {
+                Operation::Create { parameter } => {
+                    let seat = self.seat_of(0);
+                    self.ids[seat] = ids[parameter as usize];
+                }
+                Operation::Destroy { parameter } => {
+                    let seat = self.seat_of(ids[parameter as usize]);
+                    self.ids[seat] = 0;
+                }
+                Operation::Enter { .. } | Operation::Delete { .. } => {}
+            }
+        }
+        for seat in 0..SEATS {
+            self.types[seat] = after.type_of(self.ids[seat]).unwrap_or(0);
+        }
+        self.fill(after);
+    }
+
+    /// The matrix's cells, with the things where they sit.
+    pub fn fill(&mut self, matrix: &Matrix) {
+        self.cells[..CELLS].fill(0);
+        for (&(row, column), &rights) in matrix.cells() {
+            let place = self.seat_of(row) * SEATS + self.seat_of(column);
+            self.cells[place] = rights;
+        }
+    }
+
+    fn seat_of(&self, id: u16) -> usize {
+        let seat = self.ids.iter().position(|&found| found == id);
+        seat.expect("there is such a seat")
+    }
+
+    /// Ids that differ, types below m, and type 0 at each free seat.
+    pub fn things_accepted(&self, head: &Scheme) -> bool {
+        let taken: Vec<u16> = self.ids.iter().copied().filter(|&id| id != 0).collect();
+        let apart: BTreeSet<u16> = taken.iter().copied().collect();
+        let fits = |(&id, &kind): (&u16, &u8)| match id {
+            0 => kind == 0,
+            _ => kind < head.types,
+        };
+        apart.len() == taken.len() && self.ids.iter().zip(&self.types).all(fits)
+    }
+
+    /// Of the cells so many are lent. Those that don't exist are empty, and no right is n or above.
+    pub fn accepted(&self, head: &Scheme, lent: usize) -> bool {
+        let fits = |(place, &rights): (usize, &u64)| {
+            let (row, column) = (place / SEATS, place % SEATS);
+            let subject = head.is_subject_type(self.types[row]);
+            let exists = self.ids[row] != 0 && self.ids[column] != 0 && subject;
+            rights == 0 || exists && rights & !all_rights(head.rights.min(64)) == 0
+        };
+        let mut cells = self.cells[..CELLS].iter().enumerate();
+        lent == CELLS && self.things_accepted(head) && cells.all(fits)
+    }
+
+    /// The content, of a matrix that is accepted.
+    pub fn matrix(&self, head: &Scheme) -> Matrix {
+        let mut matrix = Matrix::new();
+        for (&id, &kind) in self.ids.iter().zip(&self.types) {
+            if id != 0 {
+                matrix.create(head, id, kind);
+            }
+        }
+        for (place, &rights) in self.cells[..CELLS].iter().enumerate() {
+            if rights != 0 {
+                let (row, column) = (self.ids[place / SEATS], self.ids[place % SEATS]);
+                matrix.set_cell(row, column, rights);
+            }
+        }
+        matrix
+    }
+}

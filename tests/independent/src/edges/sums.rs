@@ -1,0 +1,33 @@
+//! The sums that stand for what was lent: each place counts by its value and its position.
+
+/// The largest prime below 2 to the 40.
+const PRIME: u64 = (1 << 40) - 87;
+
+fn add(sum: u64, value: u64) -> u64 {
+    (sum * 1_000_003 + value) % PRIME
+}
+
+fn all(values: impl IntoIterator<Item = u64>) -> u64 {
+    values.into_iter().fold(1, add)
+}
+
+pub fn bytes(bytes: &[u8]) -> u64 {
+    all(bytes.iter().map(|&byte| u64::from(byte)))
+}
+
+pub fn ids(ids: &[u16]) -> u64 {
+    all(ids.iter().map(|&id| u64::from(id)))
+}
+
+/// Id and type of each seat, then the two halves of each cell.
+pub fn matrix(ids: &[u16], types: &[u8], cells: &[u64]) -> u64 {
+    let things = ids.iter().zip(types);
+    let things = things.flat_map(|(&id, &kind)| [u64::from(id), u64::from(kind)]);
+    let cells = cells.iter();
+    all(things.chain(cells.flat_map(|cell| [cell & 0xFFFF_FFFF, cell >> 32])))
+}
+
+/// What a lent buffer holds before the call: no zeros.
+pub fn pattern(room: u64) -> Vec<u8> {
+    (0..room).map(|place| (place % 251 + 1) as u8).collect()
+}
