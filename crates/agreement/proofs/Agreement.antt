@@ -1,85 +1,88 @@
 -- Demand 3 of the functions. A conversion that was done tells that all was accepted; what the robot then reads stands for the converted matrix; and
 -- a run in memory is a run on paper, of which `Demand3` speaks.
 -- Assumes nothing.
-use Prim.Native.Nat.{ℕ, suc, _≤_}
-use native.Mathlib.Nat.{zero-add}
-use mathlib.Core.Path.{_≡_, refl, sym, ap, _∙_}
+use Prim.Native.Nat.{ℕ, _+_, _*_, _≤_, _<_}
+use mathlib.Core.Path.{_≡_, refl, sym, ap, subst, _∙_}
 use mathlib.Core.Bool.{Bool, true, false, cond, _&&_}
 use mathlib.Core.Option.{none, some}
-use mathlib.Core.List.{List, [], _∷_, map}
-use lib.Dec.{T, leb, leb→le, le→leb}
-use lib.ListN.{length, take, replicate}
-use lib.Seq.{take-length}
-use Rattle.model.specs.Check.{Fault, passes}
-use Rattle.model.specs.Request.{Request, after, step, run, answers}
-use Rattle.model.specs.Papers.{State, papers}
+use mathlib.Core.List.{List, _++_, map}
+use lib.Dec.{T, leb, le→leb}
+use lib.ListN.{length, take, drop, getD}
+use lib.Seq.{take-length, take-append-seam}
+use Rattle.laws.specs.Check.{Fault, passes, Each}
+use Rattle.model.specs.Request.{Request, Answer, run, answers}
+use Rattle.model.specs.Answers.{replyWidth}
+use Rattle.model.specs.Papers.{papers}
 use Rattle.model.specs.Seats.{Matrix, seats, standsFor}
 use Rattle.model.specs.Accepted.{acceptedScheme, acceptedMatrix}
 use Rattle.model.specs.declared.Scheme.{Scheme}
-use Rattle.model.proofs.Bools.{is-true, and-left, and-right}
+use Rattle.model.specs.declared.Things.{Things}
+use Rattle.laws.proofs.Bools.{is-true, and-left, and-right}
+use Rattle.laws.proofs.Differ.{constructors-differ}
 use Rattle.model.proofs.Joined.{run-joined}
 use Rattle.conversion.specs.Conversion.{conversionFault, convertible, convertScheme, convertMatrix}
 use Rattle.conversion.specs.Demand3.{Mirrors, Within, obeyed, Safe, Agree as OnPaper}
 use Rattle.conversion.proofs.Converted.{converts}
 use Rattle.conversion.proofs.Demand3.{demand3}
 use Rattle.records.specs.Writing.{placed}
+use Rattle.records.specs.declared.Reading.the-variants as reading
 use Rattle.records.specs.declared.Writing.{Writing}
 use Rattle.records.specs.declared.Writing.the-variants as writing
-use Rattle.records.proofs.FieldLaws.{apart}
-use Rattle.records.proofs.PlacedLaws.{take-through-placed}
 use Rattle.records.proofs.Wrote.{pair-eq, wrote, wrote-first}
+use Rattle.scheme_bytes.specs.Answers.{readScheme}
 use Rattle.scheme_bytes.specs.Write.{writeScheme}
 use Rattle.scheme_bytes.proofs.FunctionTrips.{function-trips as scheme-trips}
+use Rattle.matrix_bytes.specs.Answers.{readMatrix}
 use Rattle.matrix_bytes.specs.FunctionTrips.{reseated}
 use Rattle.matrix_bytes.specs.Write.{matrixBytes, writeMatrix}
+use Rattle.matrix_bytes.specs.declared.answers.MatrixAnswer.{MatrixAnswer}
 use Rattle.matrix_bytes.proofs.FunctionTrips.{function-trips as matrix-trips}
 use Rattle.matrix_bytes.proofs.RoundTrips.{round-trips}
 use Rattle.matrix_bytes.proofs.AcceptedTrip.{accepted-iff-read}
-use Rattle.engine.specs.List.{Result, listOf, runAnswer, refusedRun, runOn}
+use Rattle.request_list.specs.List.{Listed, readList, listBytes}
+use Rattle.request_list.specs.Write.{Writable}
+use Rattle.request_list.proofs.ListTrips.{list-trips}
+use Rattle.engine.proofs.ListLaws.{answers-length, replies-length}
+use Rattle.engine.specs.List.{Result, runAnswer, repliesTo, refusedRun, runOn}
 use Rattle.convert.specs.Convert.{schemeFault, matrixFault, writtenBy, convertSchemeInto, convertMatrixInto}
-use Rattle.agreement.specs.Agreement.{leftBy, AllDone, FunctionsAgree}
-use Rattle.agreement.proofs.Told.{all-obeyed}
+use Rattle.agreement.specs.Agreement.{leftBy, CarriedOut, obeyedBy, FunctionsAgree}
+use Rattle.agreement.proofs.Obeyed.{replies, told, obeyed-each, obeyed-done, replies-none}
 
 -- ---- what a conversion that was done tells: there was no fault, and so many bytes stand in front of the buffer
 no-fault : (may : Bool) (f : Fault) → cond may f (some 27) ≡ none → T may × T (passes f)
 unfolding passes
 no-fault true f e = (tt, rw e tt)
-no-fault false f e = apart (cc)
+no-fault false f e = constructors-differ (cc)
 
 written-by : (out bytes : List ℕ) (f : Fault) (n : ℕ) (left : List ℕ) → _≡_ {A = Writing × List ℕ} (writtenBy out bytes f) (writing.Done n, left) →
     (f ≡ none) × (n ≡ length (take n left))
 written-by out bytes none n left e =
     let (size, same) = wrote-first out bytes n left (wrote true 27 out 0 bytes n left e .1) in (refl, size ∙ ap length (sym same))
-written-by out bytes (some k) n left e = let (p, d) = pair-eq e in apart (cc)
+written-by out bytes (some k) n left e = let (p, d) = pair-eq e in constructors-differ (cc)
 
 -- ---- a run of accepted ones, in memory and on paper
-abbrev asked : List ℕ → List Request
-asked bytes = listOf bytes .requests
+abbrev pub asked : List ℕ → List Request
+asked bytes = readList bytes .requests
 
--- is there room for the answers? and how many requests are then carried out?
-abbrev room : List ℕ → List ℕ → Bool
-room bytes out = leb (length (asked bytes)) (length out)
+-- is there room for the replies? and how many requests are then carried out?
+abbrev pub room : List ℕ → List ℕ → Bool
+room bytes out = leb (replyWidth * length (asked bytes)) (length out)
 
 abbrev many : List ℕ → List ℕ → ℕ
 many bytes out = cond (room bytes out) (length (asked bytes)) 0
 
-abbrev ranIf : Scheme → Matrix → List ℕ → List ℕ → Bool → Result
+abbrev pub ranIf : Scheme → Matrix → List ℕ → List ℕ → Bool → Result
 ranIf s m bytes out fits =
     cond fits
     (record {
-      ran = record { answer = runAnswer (length (asked bytes)) (listOf bytes .ending); things = run seats s m (asked bytes) .things };
+      ran = record { answer = runAnswer (length (asked bytes)) (readList bytes .ending); things = run seats s m (asked bytes) .things };
       cells = run seats s m (asked bytes) .cells;
-      numbers = placed out 0 (answers seats s m (asked bytes));
+      replies = placed out 0 (repliesTo s m (asked bytes));
     })
     (refusedRun m out 9)
 
-answers-many : (s : Scheme) (m : State) (qs : List Request) → length (answers papers s m qs) ≡ length qs
-unfolding answers
-answers-many s m [] = refl
-answers-many s m (q ∷ qs) = ap suc (answers-many s (after m (step papers s m q)) qs)
-
 module _ (s : Scheme) (m : Matrix) (ok : T (acceptedScheme s)) (of : T (acceptedMatrix (s .head) m)) (bytes out : List ℕ) where
-  ran : runOn s m bytes out ≡ ranIf s m bytes out (room bytes out)
+  pub ran : runOn s m bytes out ≡ ranIf s m bytes out (room bytes out)
   unfolding runOn
   ran = rw (is-true (acceptedScheme s) ok, is-true (acceptedMatrix (s .head) m) of)
 
@@ -91,19 +94,65 @@ module _ (s : Scheme) (m : Matrix) (ok : T (acceptedScheme s)) (of : T (accepted
   left-so : leftBy (runOn s m bytes out) ≡ run papers s (standsFor m) (take (many bytes out) (asked bytes))
   left-so = ap leftBy ran ∙ left-if (room bytes out)
 
-  -- where there is room, the answers stand in front
-  answers-first : T (room bytes out) → take (length (asked bytes)) (runOn s m bytes out .numbers) ≡ answers papers s (standsFor m) (asked bytes)
-  answers-first t =
-      let vs : List ℕ = answers papers s (standsFor m) (asked bytes) in
-      let n : length vs ≡ length (asked bytes) = answers-many s (standsFor m) (asked bytes) in
-      rw (ran, is-true (room bytes out) t, run-joined .sameAnswers s m (asked bytes) ok of, ← n, ← zero-add (length vs))
-      (take-through-placed out 0 vs (rw (zero-add, n) (leb→le _ _ t)))
+  -- where there is room, the replies stand in front
+  on-paper-replies : repliesTo s m (asked bytes) ≡ replies (answers papers s (standsFor m) (asked bytes))
+  on-paper-replies = ap replies (run-joined .sameAnswers s m (asked bytes) ok of)
 
-zeros : (qs : List Request) → map {B = ℕ} (λ q. 0) qs ≡ replicate (length qs) 0
-zeros [] = refl
-zeros (q ∷ qs) = ap (λ (ks : List ℕ). 0 ∷ ks) (zeros qs)
+  module _ (t : T (room bytes out)) where
+    abbrev vs : List ℕ
+    vs = replies (answers papers s (standsFor m) (asked bytes))
+
+    as-many : length vs ≡ replyWidth * length (asked bytes)
+    as-many = replies-length (answers papers s (standsFor m) (asked bytes)) ∙ ap (λ (n : ℕ). replyWidth * n) (answers-length papers s (standsFor m) (asked bytes))
+
+    replied : runOn s m bytes out .replies ≡ vs ++ drop (0 + length vs) out
+    unfolding placed
+    replied = ap (λ (r : Result). r .replies) ran ∙ rw (is-true (room bytes out) t, on-paper-replies)
+
+    replies-first : take (replyWidth * length (asked bytes)) (runOn s m bytes out .replies) ≡ vs
+    replies-first = rw (replied, ← as-many) (take-append-seam vs (drop (0 + length vs) out))
+
+    -- they tell what was carried out before the first refusal
+    obeys : obeyedBy (asked bytes) (runOn s m bytes out .replies) ≡ obeyed s (standsFor m) (asked bytes)
+    obeys = rw replied (told s (standsFor m) (asked bytes) (drop (0 + length vs) out))
+
+-- a run of requests that can be written, each of which is carried out
+module _ (s : Scheme) (m : Matrix) (ok : T (acceptedScheme s)) (of : T (acceptedMatrix (s .head) m)) (ps : List Request) (each : Each Writable ps)
+    (out : List ℕ) (fits : replyWidth * length ps ≤ length out) where
+  reads : readList (listBytes ps) ≡ record { requests = ps; ending = reading.Done (length (listBytes ps)) }
+  reads = list-trips .there ps each
+
+  has-room : T (room (listBytes ps) out)
+  has-room = subst (λ (l : Listed). T (leb (replyWidth * length (l .requests)) (length out))) (sym reads) (le→leb _ _ fits)
+
+  same-list : asked (listBytes ps) ≡ ps
+  same-list = ap (λ (l : Listed). l .requests) reads
+
+  carried-out : answers papers s (standsFor m) ps ≡ map (λ q. none) ps → CarriedOut ps (runOn s m (listBytes ps) out)
+  carried-out does =
+      let in-full : runOn s m (listBytes ps) out ≡ ranIf s m (listBytes ps) out true =
+      ran s m ok of (listBytes ps) out ∙ ap (ranIf s m (listBytes ps) out) (is-true (room (listBytes ps) out) has-room) in
+      let first : take (replyWidth * length ps) (runOn s m (listBytes ps) out .replies) ≡ replies (answers papers s (standsFor m) ps) =
+      subst (λ (qs : List Request). take (replyWidth * length qs) (runOn s m (listBytes ps) out .replies) ≡ replies (answers papers s (standsFor m) qs))
+      same-list (replies-first s m ok of (listBytes ps) out has-room) in
+      record {
+        ended = ap (λ (r : Result). r .ran .answer) in-full ∙ ap (λ (l : Listed). runAnswer (length (l .requests)) (l .ending)) reads;
+        replied = first ∙ ap replies does ∙ replies-none ps;
+      }
+
+  left-after : leftBy (runOn s m (listBytes ps) out) ≡ run papers s (standsFor m) ps
+  left-after =
+      let all : many (listBytes ps) out ≡ length (asked (listBytes ps)) =
+      ap (λ (b : Bool). cond b (length (asked (listBytes ps))) 0) (is-true (room (listBytes ps) out) has-room) in
+      left-so s m ok of (listBytes ps) out
+      ∙ ap (λ (qs : List Request). run papers s (standsFor m) qs) (ap (λ (n : ℕ). take n (asked (listBytes ps))) all ∙ take-length (asked (listBytes ps)) ∙ same-list)
 
 -- ---- the office and the robot
+
+-- what the robot has read
+abbrev pub robotOf : Scheme → Matrix → Matrix
+robotOf s m = reseated (convertScheme s) (convertMatrix (s .head) m)
+
 module _ (s : Scheme) (m : Matrix) (ok : T (acceptedScheme s)) (of : T (acceptedMatrix (s .head) m)) (can : T (convertible s)) where
   abbrev new : Scheme
   new = convertScheme s
@@ -111,17 +160,16 @@ module _ (s : Scheme) (m : Matrix) (ok : T (acceptedScheme s)) (of : T (accepted
   abbrev full : Matrix
   full = convertMatrix (s .head) m
 
-  -- what the robot has read
   abbrev robot : Matrix
-  robot = reseated new full
+  robot = robotOf s m
 
-  new-ok : T (acceptedScheme new)
+  pub new-ok : T (acceptedScheme new)
   new-ok = converts .scheme s ok can .0
 
   full-ok : T (acceptedMatrix (new .head) full)
   full-ok = converts .matrix s m ok can of
 
-  robot-ok : T (acceptedMatrix (new .head) robot)
+  pub robot-ok : T (acceptedMatrix (new .head) robot)
   robot-ok =
       let bytes : List ℕ = matrixBytes (new .head) full in
       let (tidy, below, there, same) = accepted-iff-read .reads new full new-ok full-ok in
@@ -131,44 +179,60 @@ module _ (s : Scheme) (m : Matrix) (ok : T (acceptedScheme s)) (of : T (accepted
     on-paper : OnPaper s (standsFor m) (standsFor robot) (asked bytes)
     on-paper = rw (round-trips .sameContent new full new-ok full-ok) (demand3 s m (asked bytes) ok can of)
 
-    same-ending : runOn new robot bytes out .ran .answer ≡ runOn s m bytes out .ran .answer
+    pub same-ending : runOn new robot bytes out .ran .answer ≡ runOn s m bytes out .ran .answer
     same-ending = rw (ran new robot new-ok robot-ok bytes out, ran s m ok of bytes out) (go (room bytes out))
       where
         go : (fits : Bool) → ranIf new robot bytes out fits .ran .answer ≡ ranIf s m bytes out fits .ran .answer
         go true = refl
         go false = refl
 
-    same-answers : runOn new robot bytes out .numbers ≡ runOn s m bytes out .numbers
+    pub same-answers : runOn new robot bytes out .replies ≡ runOn s m bytes out .replies
     same-answers = rw (ran new robot new-ok robot-ok bytes out, ran s m ok of bytes out) (go (room bytes out))
       where
         same : answers seats new robot (asked bytes) ≡ answers seats s m (asked bytes)
         same = run-joined .sameAnswers new robot _ new-ok robot-ok ∙ on-paper .sameAnswers ∙ sym (run-joined .sameAnswers s m _ ok of)
 
-        go : (fits : Bool) → ranIf new robot bytes out fits .numbers ≡ ranIf s m bytes out fits .numbers
-        go true = ap (placed out 0) same
+        go : (fits : Bool) → ranIf new robot bytes out fits .replies ≡ ranIf s m bytes out fits .replies
+        go true = ap (λ (list : List Answer). placed out 0 (replies list)) same
         go false = refl
 
-    mirrored : Mirrors (s .head) (leftBy (runOn s m bytes out)) (leftBy (runOn new robot bytes out))
+    pub mirrored : Mirrors (s .head) (leftBy (runOn s m bytes out)) (leftBy (runOn new robot bytes out))
     mirrored = rw (left-so s m ok of bytes out, left-so new robot new-ok robot-ok bytes out) (on-paper .afterEach (many bytes out))
 
-    -- answers that are all 0 are those of a robot that obeyed the whole list
-    incomplete : (poor : Matrix) → T (acceptedMatrix (new .head) poor) → Within (standsFor poor) (standsFor robot) →
-        length (asked bytes) ≤ length out → AllDone bytes (runOn new poor bytes out) →
-        AllDone bytes (runOn s m bytes out) × Within (leftBy (runOn new poor bytes out)) (leftBy (runOn new robot bytes out))
-    unfolding AllDone
-    incomplete poor p w fits e =
-        let qs : List Request = asked bytes in
-        let t : T (room bytes out) = le→leb _ _ fits in
-        let all : obeyed new (standsFor poor) qs ≡ qs = all-obeyed new (standsFor poor) qs (sym (answers-first new poor new-ok p bytes out t) ∙ e) in
-        let safe : Safe s (standsFor m) (standsFor robot) (standsFor poor) qs = rw all at (on-paper .incomplete (standsFor poor) w) in (
-          answers-first s m ok of bytes out t ∙ safe .officeDoes ∙ zeros qs,
-          rw (left-so new poor new-ok p bytes out, left-so new robot new-ok robot-ok bytes out, is-true (room bytes out) t, take-length qs)
-              (safe .noEntryMore),
-        )
+    -- what the poorer robot obeyed, the office does, and so does the poorer robot itself
+    pub incomplete : (poor : Matrix) (out′ : List ℕ) → T (acceptedMatrix (new .head) poor) → Within (standsFor poor) (standsFor robot) →
+        ((i : ℕ) → getD bytes i 0 < 256) → replyWidth * length (asked bytes) ≤ length out →
+        let ps = obeyedBy (asked bytes) (runOn new poor bytes out .replies) in
+        replyWidth * length ps ≤ length out′ →
+        CarriedOut ps (runOn s m (listBytes ps) out′)
+        × CarriedOut ps (runOn new poor (listBytes ps) out′)
+        × Within (leftBy (runOn new poor (listBytes ps) out′)) (leftBy (runOn new robot (listBytes ps) out′))
+    incomplete poor out′ p w small fits =
+        rw (obeys new poor new-ok p bytes out (le→leb _ _ fits)) (λ fits′.
+        let ps : List Request = obeyed new (standsFor poor) (asked bytes) in
+        let each : Each Writable ps = obeyed-each Writable new (standsFor poor) (asked bytes) (list-trips .writable bytes small) in
+        let safe : Safe s (standsFor m) (standsFor robot) (standsFor poor) ps = on-paper .incomplete (standsFor poor) w in (
+          carried-out s m ok of ps each out′ fits′ (safe .officeDoes),
+          carried-out new poor new-ok p ps each out′ fits′ (obeyed-done new (standsFor poor) (asked bytes)),
+          rw (left-after new poor new-ok p ps each out′ fits′, left-after new robot new-ok robot-ok ps each out′ fits′) (safe .noEntryMore),
+        ))
 
-pub functions-agree : FunctionsAgree
+-- ---- what two conversions that were done tell
+pub record Converted (s : Scheme) (m : Matrix) (robotScheme robotMatrix : List ℕ) : Type 0 where
+  pub ok : T (acceptedScheme s)
+  pub of : T (acceptedMatrix (s .head) m)
+  pub can : T (convertible s)
+  pub readsScheme : (table : Scheme) → readScheme robotScheme table ≡ record { answer = reading.Done (length robotScheme); scheme = convertScheme s }
+  pub readsMatrix : (things : Things) (cells : List ℕ) → length cells ≡ 2304 →
+      _≡_ {A = MatrixAnswer × List ℕ} (readMatrix robotMatrix (convertScheme s) things cells)
+      (record { answer = reading.Done (length robotMatrix); things = robotOf s m .things }, robotOf s m .cells)
+
+pub converted : (s : Scheme) (m : Matrix) (out out′ left left′ : List ℕ) (written written′ : ℕ) →
+    _≡_ {A = Writing × List ℕ} (convertSchemeInto out s) (writing.Done written, left) →
+    _≡_ {A = Writing × List ℕ} (convertMatrixInto out′ s m) (writing.Done written′, left′) →
+    Converted s m (take written left) (take written′ left′)
 unfolding convertSchemeInto convertMatrixInto matrixFault convertible writeScheme writeMatrix
-functions-agree s m out out′ left left′ written written′ e e′ =
+converted s m out out′ left left′ written written′ e e′ =
     let (none-first, size) = written-by out _ (schemeFault s) written left e in
     let (none-then, size′) = written-by out′ _ (matrixFault s m) written′ left′ e′ in
     let (both, can) = no-fault (acceptedScheme s && acceptedMatrix (s .head) m) (conversionFault s) none-then in
@@ -179,11 +243,22 @@ functions-agree s m out out′ left left′ written written′ e e′ =
     let scheme = scheme-trips .written out (convertScheme s) written left (rw a (rw none-first at e)) in
     let matrix = matrix-trips .written out′ (convertScheme s) (convertMatrix (s .head) m) written′ left′ (rw (a, b) (rw none-then at e′)) in
     record {
-      robot = robot s m ok of can;
+      ok = ok;
+      of = of;
+      can = can;
       readsScheme = λ table. rw (← size) (scheme table);
       readsMatrix = λ things cells l. rw (← size′) (matrix .0 things cells l);
-      sameEnding = same-ending s m ok of can;
-      sameAnswers = same-answers s m ok of can;
-      mirrored = mirrored s m ok of can;
-      incomplete = λ poor bytes out. incomplete s m ok of can bytes out poor;
+    }
+
+pub functions-agree : FunctionsAgree
+functions-agree s m out out′ left left′ written written′ e e′ =
+    let c = converted s m out out′ left left′ written written′ e e′ in
+    record {
+      robot = robotOf s m;
+      readsScheme = c .readsScheme;
+      readsMatrix = c .readsMatrix;
+      sameEnding = same-ending s m (c .ok) (c .of) (c .can);
+      sameAnswers = same-answers s m (c .ok) (c .of) (c .can);
+      mirrored = mirrored s m (c .ok) (c .of) (c .can);
+      incomplete = λ poor bytes out out′. incomplete s m (c .ok) (c .of) (c .can) bytes out poor out′;
     }

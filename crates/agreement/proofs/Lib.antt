@@ -1,5 +1,15 @@
--- The proofs of what `Agreement`, `Starred` and `WrongPrograms` state; `Told` is a law of refusals that the first cites.
-pub mod Told
+-- The proofs of what `Agreement`, `LibraryAgrees`, `Numbers`, `Starred` and `WrongPrograms` state, and the laws that they cite: `Obeyed` (what stored
+-- replies tell), `ReadNumbers` and `FaultNumbers` (which numbers a reading, a
+-- conversion can be refused by), `LibraryCalls` and `LibraryRuns` (a call on bytes is a call on what they
+-- are), `Computes` (what the computed ones look through).
+pub mod Computes
+pub mod Obeyed
 pub mod Agreement
+pub mod ReadNumbers
+pub mod FaultNumbers
+pub mod LibraryCalls
+pub mod LibraryRuns
+pub mod LibraryAgrees
+pub mod Numbers
 pub mod Starred
 pub mod WrongPrograms

@@ -4,19 +4,16 @@ use Prim.Native.Nat.{ℕ}
 use native.Mathlib.Omega.{arith}
 use mathlib.Core.Path.{_≡_, refl, sym, ap, _∙_}
 use mathlib.Core.List.{List, [], _∷_}
-use lib.ListN.{getD}
-use Rattle.rights.specs.Sets.{has, single, enterRight, deleteRight, within, partner, gained, converted}
-use Rattle.model.specs.Check.{_orElse_, must, passes, any, all, isSome}
-use Rattle.model.specs.Scheme.{isSubject, typeAt, idAt, creates, destroys, isNew}
-use Rattle.model.specs.Request.{Request, isId, number, after, unlessFault, andThen, typeFault, placeFault, placesFault, holds, act, operate, operateAll, carryOut, carryOutIf, step, run, answers}
-use Rattle.model.specs.Seats.{among, find, known, seat, thingAt, place, cell, change, putThing, remove, seats}
-use Rattle.model.specs.Accepted.{between, firstFault, headFault, typeRange, rowFault, testFault, changeFault, thingFault, codeFault, operationFault, operationsFault, commandFault, zeroType, zeroTest, zeroOperation, padded, paddedCommand, zeroCommand, acceptedCommand, acceptedScheme, apart, acceptedSeats, acceptedThings, standing, acceptedPlaces, acceptedMatrix}
+use lib.ListN.{getD, replicate}
+use Rattle.records.specs.declared.Writing.{Writing}
+use Rattle.model.specs.Request.{Request}
 use Rattle.model.specs.KeyExample.{keyScheme, keyMatrix, ask}
-use Rattle.conversion.specs.Conversion.{conversionFault, partnerOf, convertTest, onPartner, convertOperations, convertCommand, convertScheme, convertCells, convertMatrix}
-use Rattle.engine.specs.Step.{requestOn}
-use Rattle.convert.specs.Convert.{schemeFault, matrixFault, convertedScheme, convertedCells}
+use Rattle.convert.specs.Convert.{convertedScheme}
 use Rattle.totals.proofs.TrueTotals.{true-totals}
-use Rattle.agreement.specs.WrongPrograms.{Asked, Held, Calls, ofRequest, resultOf, ofCells, afterCalls, ofCalls, WrongPrograms}
+use Rattle.agreement.proofs.Computes.{examples-compute, converting-computes, schemes-compute, matrices-compute, lists-compute}
+use Rattle.agreement.specs.WrongPrograms.{Asked, Held, Into, Calls, statedRequest, resultOf, statedCells, statedSchemeBytes, statedMatrixBytes, afterCalls, statedCalls, WrongPrograms}
+use Rattle.scheme_bytes.specs.Write.{writeScheme}
+use Rattle.matrix_bytes.specs.Write.{writeMatrix}
 
 -- ---- the examples: load(9, 12) from the start; again once the key is retired; the start itself
 abbrev load-retire : List Request
@@ -34,21 +31,29 @@ start = record { scheme = keyScheme; matrix = keyMatrix }
 abbrev one-of-two : Calls
 one-of-two = record { scheme = keyScheme; matrix = keyMatrix; requests = load-retire; called = 1 }
 
--- what the definitions give there
+-- room for both conversions
+abbrev roomy : Into
+roomy = record { out = replicate 256 0; held = start }
+
+-- what the definitions give there; byte 4 of a scheme's and of a matrix's bytes is the number of rights
 record Computed : Type 0 where
-  first-result : resultOf (ofRequest first) ≡ 0
-  first-cell : getD (ofRequest first .1) 50 0 ≡ 10
+  first-result : resultOf (statedRequest first) ≡ 0
+  first-cell : getD (statedRequest first .1) 50 0 ≡ 10
   start-cell : getD (keyMatrix .cells) 50 0 ≡ 2
-  third-result : resultOf (ofRequest third) ≡ 14
-  robot-cell : getD (ofCells start .1) 50 0 ≡ 210
+  third-result : resultOf (statedRequest third) ≡ 14
+  robot-cell : getD (statedCells start .1) 50 0 ≡ 210
   key-rights : keyScheme .head .rights ≡ 4
   robot-rights : convertedScheme keyScheme .scheme .head .rights ≡ 8
-  after-one : getD (ofCalls one-of-two .cells) 49 0 ≡ 0
+  scheme-byte : getD (statedSchemeBytes roomy .1) 4 0 ≡ 8
+  scheme-copied : getD (writeScheme (replicate 256 0) keyScheme .1) 4 0 ≡ 4
+  matrix-byte : getD (statedMatrixBytes roomy .1) 4 0 ≡ 8
+  matrix-copied : getD (writeMatrix (replicate 256 0) keyScheme keyMatrix .1) 4 0 ≡ 4
+  after-one : getD (statedCalls one-of-two .cells) 49 0 ≡ 0
   after-two : getD (afterCalls keyScheme keyMatrix load-retire .cells) 49 0 ≡ 4
 
 computed : Computed
-unfolding has single enterRight deleteRight within partner gained converted _orElse_ must passes any all isSome isSubject typeAt idAt creates destroys isNew isId number after unlessFault andThen typeFault placeFault placesFault holds act operate operateAll carryOut carryOutIf step run answers among find known seat thingAt place cell change putThing remove seats between firstFault headFault typeRange rowFault testFault changeFault thingFault codeFault operationFault operationsFault commandFault zeroType zeroTest zeroOperation padded paddedCommand zeroCommand acceptedCommand acceptedScheme apart acceptedSeats acceptedThings standing acceptedPlaces acceptedMatrix keyScheme keyMatrix conversionFault partnerOf convertTest onPartner convertOperations convertCommand convertScheme convertCells convertMatrix schemeFault matrixFault convertedScheme convertedCells requestOn afterCalls
-computed = record { first-result = refl; first-cell = refl; start-cell = refl; third-result = refl; robot-cell = refl; robot-rights = refl; after-one = refl; after-two = refl; key-rights = refl }
+unfolding examples-compute converting-computes schemes-compute matrices-compute lists-compute afterCalls
+computed = record { first-result = refl; first-cell = refl; start-cell = refl; third-result = refl; robot-cell = refl; robot-rights = refl; after-one = refl; after-two = refl; key-rights = refl; scheme-byte = refl; scheme-copied = refl; matrix-byte = refl; matrix-copied = refl }
 
 differ : {x y a b : ℕ} → x ≡ y → x ≡ a → y ≡ b → (a ≡ b → ⊥) → ⊥
 differ e f g other = other (sym f ∙ e ∙ g)
@@ -61,8 +66,8 @@ unfolding at
 wrong-programs = record {
   refusesAll = λ program never meets. never first (ap resultOf (meets first) ∙ computed .first-result);
   constant = λ program k same meets.
-      let one : resultOf (ofRequest first) ≡ k = sym (ap resultOf (meets first)) ∙ same first in
-      let other : resultOf (ofRequest third) ≡ k = sym (ap resultOf (meets third)) ∙ same third in
+      let one : resultOf (statedRequest first) ≡ k = sym (ap resultOf (meets first)) ∙ same first in
+      let other : resultOf (statedRequest third) ≡ k = sym (ap resultOf (meets third)) ∙ same third in
       differ (one ∙ sym other) (computed .first-result) (computed .third-result) (λ e. omega (arith, e));
   doesNothing = λ program still meets.
       differ (ap (at 50) (sym (ap (λ r. r .1) (meets first)) ∙ still first)) (computed .first-cell) (computed .start-cell) (λ e. omega (arith, e));
@@ -71,6 +76,14 @@ wrong-programs = record {
   copiesScheme = λ program copies meets.
       let e : convertedScheme keyScheme .scheme ≡ keyScheme = sym (ap (λ r. r .scheme) (meets keyScheme)) ∙ copies keyScheme in
       differ (ap (λ s. s .head .rights) e) (computed .robot-rights) (computed .key-rights) (λ e. omega (arith, e));
+  copiesSchemeBytes = λ program copies meets.
+      differ (ap (λ (w : Writing × List ℕ). at 4 (w .1)) (sym (meets roomy) ∙ copies roomy)) (computed .scheme-byte) (computed .scheme-copied) (λ e. omega (arith, e));
+  idleSchemeBytes = λ program idle meets.
+      differ (ap (at 4) (sym (ap (λ w. w .1) (meets roomy)) ∙ idle roomy)) (computed .scheme-byte) refl (λ e. omega (arith, e));
+  copiesMatrixBytes = λ program copies meets.
+      differ (ap (λ (w : Writing × List ℕ). at 4 (w .1)) (sym (meets roomy) ∙ copies roomy)) (computed .matrix-byte) (computed .matrix-copied) (λ e. omega (arith, e));
+  idleMatrixBytes = λ program idle meets.
+      differ (ap (at 4) (sym (ap (λ w. w .1) (meets roomy)) ∙ idle roomy)) (computed .matrix-byte) refl (λ e. omega (arith, e));
   wholeListAtFirst = λ program early meets.
       let e = sym (meets one-of-two) ∙ early keyScheme keyMatrix load-retire in
       differ (ap (λ m. at 49 (m .cells)) e) (computed .after-one) (computed .after-two) (λ e. omega (arith, e));

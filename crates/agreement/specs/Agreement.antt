@@ -1,10 +1,14 @@
 -- Demand 3, said of the functions: whatever the office holds, whatever buffers the conversion calls wrote to, and whatever bytes are run as a list of
 -- requests. Each definition named here is what a function's contract equates its result with. Assumes nothing.
-use Prim.Native.Nat.{ℕ, _≤_}
+use Prim.Native.Nat.{ℕ, _*_, _≤_, _<_}
 use mathlib.Core.Path.{_≡_}
-use mathlib.Core.List.{List}
-use lib.Dec.{T}
-use lib.ListN.{length, take, replicate}
+use mathlib.Core.Bool.{cond}
+use mathlib.Core.Option.{none}
+use mathlib.Core.List.{List, [], _∷_}
+use lib.Dec.{T, eqb}
+use lib.ListN.{length, take, drop, getD}
+use Rattle.model.specs.Request.{Request}
+use Rattle.model.specs.Answers.{replyTo, replyWidth, replyBytes}
 use Rattle.model.specs.Seats.{Matrix, standsFor}
 use Rattle.model.specs.Accepted.{acceptedMatrix}
 use Rattle.model.specs.Papers.{State}
@@ -12,22 +16,32 @@ use Rattle.model.specs.declared.Scheme.{Scheme}
 use Rattle.model.specs.declared.Things.{Things}
 use Rattle.conversion.specs.Conversion.{convertScheme}
 use Rattle.conversion.specs.Demand3.{Mirrors, Within}
+use Rattle.records.specs.Bytes.{eachBytes}
 use Rattle.records.specs.declared.Reading.the-variants as reading
 use Rattle.records.specs.declared.Writing.{Writing}
 use Rattle.records.specs.declared.Writing.the-variants as writing
 use Rattle.scheme_bytes.specs.Answers.{readScheme}
 use Rattle.matrix_bytes.specs.Answers.{readMatrix}
 use Rattle.matrix_bytes.specs.declared.answers.MatrixAnswer.{MatrixAnswer}
-use Rattle.engine.specs.List.{Result, listOf, runOn}
+use Rattle.request_list.specs.List.{readList, listBytes}
+use Rattle.engine.specs.List.{Result, runOn}
+use Rattle.engine.specs.declared.answers.RunAnswer.the-variants.{Whole}
 use Rattle.convert.specs.Convert.{convertSchemeInto, convertMatrixInto}
 
 -- the papers' matrix that a run left in memory
 unfoldable pub leftBy : Result → State
 leftBy r = standsFor (record { things = r .ran .things; cells = r .cells })
 
--- every request of the list was carried out: as many answers as requests, all 0
-unfoldable pub AllDone : List ℕ → Result → Type 0
-AllDone bytes r = take (length (listOf bytes .requests)) (r .numbers) ≡ replicate (length (listOf bytes .requests)) 0
+-- these requests were run, and each was carried out: the list came to its end after as many, and as many replies that say so were stored. (A run that
+-- was refused as a whole has another answer.)
+pub record CarriedOut (qs : List Request) (r : Result) : Type 0 where
+  pub ended : r .ran .answer ≡ Whole (length qs)
+  pub replied : take (replyWidth * length qs) (r .replies) ≡ eachBytes (λ (q : Request). replyBytes (replyTo none)) qs
+
+-- the requests that were carried out before the first refusal, told from the replies that `run_list` stored: the number is a reply's first byte
+unfoldable pub obeyedBy : List Request → List ℕ → List Request
+obeyedBy [] replies = []
+obeyedBy (q ∷ qs) replies = cond (eqb (getD replies 0 0) 0) (q ∷ obeyedBy qs (drop replyWidth replies)) []
 
 -- the office holds s and m; robotScheme and robotMatrix are what the two conversion calls wrote
 pub record Agree (s : Scheme) (m : Matrix) (robotScheme robotMatrix : List ℕ) : Type 0 where
@@ -39,16 +53,20 @@ pub record Agree (s : Scheme) (m : Matrix) (robotScheme robotMatrix : List ℕ) 
       (record { answer = reading.Done (length robotMatrix); things = robot .things }, robot .cells)
   -- With every entry there, each answer is equal, whatever the list and the answers' buffer.
   pub sameEnding : (bytes out : List ℕ) → runOn (convertScheme s) robot bytes out .ran .answer ≡ runOn s m bytes out .ran .answer
-  pub sameAnswers : (bytes out : List ℕ) → runOn (convertScheme s) robot bytes out .numbers ≡ runOn s m bytes out .numbers
+  pub sameAnswers : (bytes out : List ℕ) → runOn (convertScheme s) robot bytes out .replies ≡ runOn s m bytes out .replies
   -- After it (so after each request, a list being any list) the things are the same, the plain rights agree, and a partner stands exactly where its
   -- right doesn't.
   pub mirrored : (bytes out : List ℕ) → Mirrors (s .head) (leftBy (runOn s m bytes out)) (leftBy (runOn (convertScheme s) robot bytes out))
-  -- A robot with any of its entries missing that carried out all of a list: the office carries out all of it, and the robot then holds no entry that a
-  -- complete one lacks.
-  pub incomplete : (poor : Matrix) (bytes out : List ℕ) → T (acceptedMatrix (convertScheme s .head) poor) → Within (standsFor poor) (standsFor robot) →
-      length (listOf bytes .requests) ≤ length out → AllDone bytes (runOn (convertScheme s) poor bytes out) →
-      AllDone bytes (runOn s m bytes out)
-      × Within (leftBy (runOn (convertScheme s) poor bytes out)) (leftBy (runOn (convertScheme s) robot bytes out))
+  -- A robot that starts with any of its entries missing runs any list, and stops at its first refusal: ps is what it carried out before that, told from
+  -- the replies that `run_list` stored. Just those the office carries out too, from the full matrix and in that order, as the robot did; and the robot
+  -- then holds no entry that a complete one lacks after just those.
+  pub incomplete : (poor : Matrix) (bytes out out′ : List ℕ) → T (acceptedMatrix (convertScheme s .head) poor) → Within (standsFor poor) (standsFor robot) →
+      ((i : ℕ) → getD bytes i 0 < 256) → replyWidth * length (readList bytes .requests) ≤ length out →
+      let ps = obeyedBy (readList bytes .requests) (runOn (convertScheme s) poor bytes out .replies) in
+      replyWidth * length ps ≤ length out′ →
+      CarriedOut ps (runOn s m (listBytes ps) out′)
+      × CarriedOut ps (runOn (convertScheme s) poor (listBytes ps) out′)
+      × Within (leftBy (runOn (convertScheme s) poor (listBytes ps) out′)) (leftBy (runOn (convertScheme s) robot (listBytes ps) out′))
 
 -- Both conversion calls have answered that they are done. (Then scheme and matrix are accepted and can be converted, as what was read always is.)
 abbrev pub FunctionsAgree : Type 0

@@ -1,4 +1,7 @@
--- Demand 3 of the functions (`Agreement`), the starred examples of the outline, all in one statement (`Starred`), and wrong programs that these catch.
+-- Demand 3 of the functions (`Agreement`) and of the robots' library (`LibraryAgrees`), the numbers that each function can give (`Numbers`), the starred
+-- examples of the outline, all in one statement (`Starred`), and wrong programs that these catch (`WrongPrograms`).
 pub mod Agreement
+pub mod LibraryAgrees
+pub mod Numbers
 pub mod Starred
 pub mod WrongPrograms

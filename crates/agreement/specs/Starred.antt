@@ -1,19 +1,20 @@
 -- The starred examples of the outline, all of them, as one list of claims: on paper, in memory, and as the functions' contracts give them.
 -- Assumes nothing.
-use Prim.Native.Nat.{ℕ}
+use Prim.Native.Nat.{ℕ, _*_}
 use mathlib.Core.Bool.{Bool, false, _&&_}
 use mathlib.Core.List.{List, [], _∷_, _++_, map}
 use lib.Dec.{T, eqb}
 use lib.ListN.{length, take, replicate}
-use Rattle.model.specs.Check.{all}
-use Rattle.model.specs.Request.{Request}
+use Rattle.laws.specs.Check.{all}
+use Rattle.model.specs.Answers.{replyWidth, replyBytes}
 use Rattle.model.specs.Papers.{papers}
 use Rattle.model.specs.Seats.{Matrix, seats, standsFor, known}
-use Rattle.model.specs.KeyExample.{keyScheme, keyMatrix, ask, is, sameNumbers, cellIs, isTrue, starred, Claim as Asked}
+use Rattle.model.specs.KeyExample.{keyScheme, keyMatrix, ask, says, is, sameNumbers, cellIs, isTrue, starred, Claim as Asked}
 use Rattle.model.specs.declared.Scheme.{Scheme}
+use Rattle.records.specs.Bytes.{eachBytes}
 use Rattle.records.specs.declared.Writing.{Writing}
 use Rattle.records.specs.declared.Writing.the-variants as writing
-use Rattle.request_bytes.specs.Write.{requestBytes}
+use Rattle.request_list.specs.List.{listBytes}
 use Rattle.engine.specs.List.{Result, runOn}
 use Rattle.convert.specs.Convert.{convertedScheme, convertedCells, convertSchemeInto}
 
@@ -24,26 +25,22 @@ pub data Claim : Type 0 where
   written : Scheme → ℕ → List ℕ → Claim
 
 -- ---- requests, by `run_list` on their bytes
-unfoldable pub listBytes : List Request → List ℕ
-listBytes [] = []
-listBytes (q ∷ qs) = requestBytes (q .command) (q .ids) ++ listBytes qs
-
 unfoldable pub ranSo : Asked → Result → Bool
 ranSo c r =
     let m : Matrix = record { things = r .ran .things; cells = r .cells } in
-    sameNumbers (r .numbers) (c .numbers) && all (cellIs seats m) (c .cells) && all (known (m .things)) (c .things)
+    sameNumbers (r .replies) (eachBytes replyBytes (c .replies)) && all (cellIs seats m) (c .cells) && all (known (m .things)) (c .things)
 
 unfoldable pub holdsFrom : Matrix → Asked → Bool
 holdsFrom m c =
     isTrue papers (standsFor m) c && isTrue seats m c
-    && ranSo c (runOn (c .of) m (listBytes (c .requests)) (replicate (length (c .requests)) 0))
+    && ranSo c (runOn (c .of) m (listBytes (c .requests)) (replicate (replyWidth * length (c .requests)) 0))
 
 -- ---- conversion, by `converted_scheme`, `converted_cells` and `convert_scheme`
 unfoldable pub robotMatrix : Scheme → Matrix → Matrix
 robotMatrix s m = record { things = m .things; cells = convertedCells s m .1 }
 
 unfoldable pub byRobot : Asked → Asked
-byRobot c = record { of = convertedScheme (c .of) .scheme; requests = c .requests; numbers = c .numbers; cells = c .cells; things = c .things }
+byRobot c = record { of = convertedScheme (c .of) .scheme; requests = c .requests; replies = c .replies; cells = c .cells; things = c .things }
 
 abbrev pub wroteSo : ℕ → List ℕ → Writing × List ℕ → Bool
 wroteSo n front (writing.Done k, left) = eqb k n && sameNumbers (take (length front) left) front
@@ -61,7 +58,7 @@ allStarred =
     ++ robot (record {
       of = keyScheme;
       requests = [];
-      numbers = [];
+      replies = [];
       cells = is 5 9 225 ∷ is 9 12 210 ∷ is 5 5 240 ∷ is 5 12 240 ∷ is 9 5 240 ∷ is 9 9 240 ∷ [];
       things = 5 ∷ 9 ∷ 12 ∷ [];
     })
@@ -69,7 +66,7 @@ allStarred =
     ∷ robot (record {
       of = keyScheme;
       requests = ask 1 (9 ∷ 12 ∷ []) ∷ ask 0 (5 ∷ 9 ∷ []) ∷ [];
-      numbers = 0 ∷ 0 ∷ [];
+      replies = says 0 ∷ says 0 ∷ [];
       cells = is 9 12 90 ∷ is 9 9 180 ∷ [];
       things = [];
     })

@@ -10,19 +10,20 @@ use lib.ListN.{getD}
 use lib.Pow.{pow-pos}
 use Rattle.rights.specs.Sets.{complement, converted}
 use Rattle.rights.proofs.Converted.{converted-number}
-use Rattle.model.specs.Check.{isSome}
-use Rattle.model.specs.Scheme.{isSubject}
-use Rattle.model.specs.Seats.{Matrix, known, seat, thingAt, place, cell, standsFor, noType}
+use Rattle.laws.specs.Check.{isSome}
+use Rattle.model.specs.Scheme.{isSubject, noType}
+use Rattle.model.specs.Papers.{isSubjectThing, cellExists}
+use Rattle.model.specs.Seats.{Matrix, known, seat, thingIn, thingAt, paperThings, place, cell, standsFor}
 use Rattle.model.specs.Accepted.{acceptedMatrix, standing}
 use Rattle.model.specs.declared.Head.{Head}
 use Rattle.model.specs.declared.Scheme.{Scheme}
 use Rattle.model.specs.declared.Things.{Things}
-use Rattle.model.proofs.Bools.{from-true, and-left, and-right, is-true, eqb-not}
+use Rattle.laws.proofs.Bools.{from-true, and-left, and-right, is-true, eqb-not}
 use Rattle.model.proofs.Held.{Held}
 use Rattle.model.proofs.HeldLaws.{held}
 use Rattle.model.proofs.Find.{known-nonzero, seat-is, seat-lt}
 use Rattle.model.proofs.SeatChange.{state-eq, cond-when}
-use Rattle.conversion.specs.Conversion.{convertible, isSubjectThing, cellExists, convertState, convertMatrix}
+use Rattle.conversion.specs.Conversion.{convertible, convertState, convertMatrix}
 use Rattle.conversion.specs.Promises.{Converts}
 use Rattle.conversion.proofs.Lists.{few-rights, by-cond, cells-at}
 use Rattle.conversion.proofs.SchemeAccepted.{scheme-accepted}
@@ -38,15 +39,15 @@ module _ (h : Head) (m : Matrix) (ok : Held h m) (x y : ℕ) where
 
   -- a cell of the papers' matrix: both things exist, and it stands at their seats
   exists-stands : cellExists h (standsFor m) x y ≡ (both && standing h th (seat th x) (seat th y))
-  unfolding cellExists standsFor thingAt isSome standing
+  unfolding cellExists standsFor paperThings thingAt thingIn isSome standing
   exists-stands = go (known th x) (known th y) refl refl
     where
       row : Bool
       row = isSubject h (getD (th .types) (seat th x) noType)
 
       go : (a b : Bool) → known th x ≡ a → known th y ≡ b →
-          (isSubjectThing h (cond a (some (getD (th .types) (seat th x) noType)) none)
-          && isSome (cond b (some (getD (th .types) (seat th y) noType)) none))
+          (isSubjectThing h (cond a (some (thingIn th (seat th x))) none)
+          && isSome (cond b (some (thingIn th (seat th y))) none))
           ≡ ((a && b) && standing h th (seat th x) (seat th y))
       go true true ea eb =
           let kx : T (known th x) = from-true ea in
@@ -77,7 +78,7 @@ module _ (h : Head) (m : Matrix) (ok : Held h m) (x y : ℕ) where
 
 pub joined : (h : Head) (m : Matrix) → T (acceptedMatrix h m) → standsFor (convertMatrix h m) ≡ convertState h (standsFor m)
 unfolding convertState standsFor convertMatrix
-joined h m t = state-eq _ _ (λ x. refl) (same-rights h m (held h m t))
+joined h m t = state-eq _ _ refl (same-rights h m (held h m t))
 
 pub exact : (s : Scheme) (m : Matrix) (x y : ℕ) → T (convertible s) → T (acceptedMatrix (s .head) m) → T (cellExists (s .head) (standsFor m) x y) →
     standsFor (convertMatrix (s .head) m) .rights x y

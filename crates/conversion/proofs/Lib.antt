@@ -1,4 +1,5 @@
--- The proofs of what `Promises` (`Converted`) and `Demand3` (`Demand3`, with `Poorer` for its second half) state, and the laws behind them.
+-- The proofs of what `Promises` (`Converted`) and `Demand3` state (`Demand3`, with `Robot`, an instance of model's `Translation`, for its first half and
+-- `Poorer` for its second), and the laws behind them.
 pub mod Lists
 pub mod Built
 pub mod Mirror

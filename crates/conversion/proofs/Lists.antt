@@ -1,6 +1,6 @@
 -- Laws that more than one file of these proofs cites: few rights, what holds of both cases, and a converted list of cells place by place.
 -- Assumes nothing.
-use Prim.Native.Nat.{ℕ, zero, suc, _+_, _-_, _*_, _/_, _%_, _≤_, _<_}
+use Prim.Native.Nat.{ℕ, zero, suc, _+_, _*_, _/_, _%_, _≤_, _<_}
 use mathlib.Core.Path.{_≡_, refl, ap, _∙_}
 use mathlib.Core.Bool.{Bool, true, false, cond}
 use mathlib.Core.List.{List, [], _∷_}
@@ -13,7 +13,7 @@ use Rattle.model.specs.Accepted.{standing}
 use Rattle.model.specs.declared.Head.{Head}
 use Rattle.model.specs.declared.Scheme.{Scheme}
 use Rattle.model.specs.declared.Things.{Things}
-use Rattle.model.proofs.Bools.{must-pass, first-pass, then-pass}
+use Rattle.laws.proofs.Bools.{must-pass, first-pass, then-pass}
 use Rattle.conversion.specs.Conversion.{conversionFault, convertible, convertCells}
 
 -- ---- a scheme that can be converted

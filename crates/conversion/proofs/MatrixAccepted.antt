@@ -6,16 +6,16 @@ use mathlib.Core.Bool.{Bool, true, false, cond}
 use mathlib.Core.List.{List, [], _∷_}
 use lib.Dec.{T, eqb, ltb, ltb→lt, lt→ltb}
 use Rattle.rights.specs.Sets.{converted}
-use Rattle.rights.specs.declared.ThingType.{ThingType}
 use Rattle.rights.proofs.Converted.{converted-lt}
 use Rattle.model.specs.Scheme.{isSubject}
 use Rattle.model.specs.Seats.{Matrix}
-use Rattle.model.specs.Accepted.{acceptedMatrix, acceptedThings, acceptedSeats, acceptedPlaces, standing}
+use Rattle.model.specs.Accepted.{acceptedMatrix, acceptedThings, acceptedSeat, acceptedPlaces, standing}
 use Rattle.model.specs.declared.Scheme.{Scheme}
 use Rattle.model.specs.declared.Things.{Things}
-use Rattle.model.proofs.Bools.{and-both, and-left, and-right}
+use Rattle.laws.proofs.Bools.{and-both, and-left, and-right}
 use Rattle.conversion.specs.Conversion.{convertible, convertScheme, convertCells, convertMatrix}
 use Rattle.conversion.proofs.Lists.{length-cells, few-rights}
+use Rattle.model.specs.Arrays.{schemeOf}
 
 -- one place: b tells if a cell stands there
 place : (n c : ℕ) → n ≤ 32 → (b : Bool) → T (cond b (ltb c (2 ^ n)) (eqb c 0)) →
@@ -24,20 +24,13 @@ place n c few true t = lt→ltb _ _ (converted-lt n c few (ltb→lt c (2 ^ n) t)
 place n c few false t = t
 
 module _ (s : Scheme) where
-  same-seats : (xs : List ℕ) (ts : List ThingType) → acceptedSeats (convertScheme s .head) xs ts ≡ acceptedSeats (s .head) xs ts
-  unfolding acceptedSeats convertScheme
-  same-seats [] [] = refl
-  same-seats [] (t ∷ ts) = refl
-  same-seats (x ∷ xs) [] = refl
-  same-seats (x ∷ xs) (t ∷ ts) = rw (same-seats xs ts)
-
   same-things : (th : Things) → acceptedThings (convertScheme s .head) th ≡ acceptedThings (s .head) th
-  unfolding acceptedThings
-  same-things th = rw (same-seats (th .ids) (th .types))
+  unfolding acceptedThings acceptedSeat convertScheme schemeOf
+  same-things th = refl
 
   places : (th : Things) → s .head .rights ≤ 32 → (k : ℕ) (l : List ℕ) → T (acceptedPlaces (s .head) th k l) →
       T (acceptedPlaces (convertScheme s .head) th k (convertCells (s .head) th k l))
-  unfolding acceptedPlaces convertCells convertScheme standing isSubject
+  unfolding acceptedPlaces convertCells convertScheme standing isSubject schemeOf
   places th few k [] t = tt
   places th few k (c ∷ cs) t =
       let here = place (s .head .rights) c few (standing (s .head) th (k / 48) (k % 48)) (search and-left) in

@@ -1,19 +1,20 @@
--- The complete robot: on a matrix that mirrors the office's it answers each request as the office, and its matrix goes on mirroring.
+-- The complete robot: conversion is a translation that keeps `Mirrored`, so the robot answers as the office, and its matrix goes on mirroring.
 -- Assumes nothing.
-use Prim.Native.Nat.{ℕ, zero, suc, _≤_, _<_}
-use mathlib.Core.Path.{_≡_, refl, ap, ap₂, _∙_}
-use mathlib.Core.Bool.{Bool, true, false, cond, _&&_, _||_}
-use mathlib.Core.Option.{Option, none, some, Option·map}
-use mathlib.Core.List.{List, [], _∷_, _++_, map}
-use lib.Dec.{T, eqb}
-use lib.ListN.{getElem?}
-use Rattle.rights.specs.Sets.{enterRight, deleteRight}
+use Prim.Native.Nat.{ℕ, _≤_, _<_}
+use mathlib.Core.Path.{_≡_, refl}
+use mathlib.Core.Bool.{Bool, true, false, cond}
+use mathlib.Core.List.{List, [], _∷_, map, Forall₂, Forall₂·nil, Forall₂·cons}
+use lib.Dec.{T, eqb-refl}
+use lib.ListN.{take}
+use Rattle.rights.specs.Numberings.{partnerOf}
 use Rattle.rights.specs.declared.ThingType.{ThingType}
-use Rattle.model.specs.Check.{must, any, all}
-use Rattle.model.specs.Scheme.{parametersOf, testsOf, operationsOf, commandsOf, isSubject, idAt, creates, isNew}
-use Rattle.model.specs.Request.{Request, Outcome, andThen, holds, act, operate, operateAll, carryOut, carryOutIf, step}
-use Rattle.model.specs.Papers.{State, changeCell, papers}
-use Rattle.model.specs.Accepted.{acceptedScheme}
+use Rattle.laws.specs.Check.{all, Each}
+use Rattle.model.specs.Scheme.{parametersOf, testsOf, operationsOf, commandsOf, keepsThings}
+use Rattle.model.specs.Request.{Request, run, answers}
+use Rattle.model.specs.Papers.{State, papers}
+use Rattle.model.specs.Accepted.{acceptedCommand, acceptedScheme}
+use Rattle.model.specs.Translation.{verdict, changedBy, changedByAll, changesCell, Related, TestBecomes, ChangeBecomes, OperationsBecome, end, change}
+use Rattle.model.specs.Translation.{CommandBecomes, Translates, Together}
 use Rattle.model.specs.declared.Test.{Test}
 use Rattle.model.specs.declared.Code.{Code}
 use Rattle.model.specs.declared.Code.the-variants.{Enter, Delete, Create, Destroy}
@@ -21,146 +22,103 @@ use Rattle.model.specs.declared.Operation.{Operation}
 use Rattle.model.specs.declared.Command.{Command}
 use Rattle.model.specs.declared.Head.{Head}
 use Rattle.model.specs.declared.Scheme.{Scheme}
-use Rattle.model.proofs.Bools.{and-left, and-right, and-both, first-pass, must-pass}
-use Rattle.model.proofs.Form.{Each, all-get, Fits, Body, Tested, Formed, formed}
-use Rattle.model.proofs.Stands.{Cell, Agree}
-use Rattle.model.proofs.Simulation.{or-same, unless-agree, places-same, placed-at, Fit, there}
-use Rattle.conversion.specs.Conversion.{keepsThings, conversionFault, convertible, partnerOf, convertTest, onPartner, convertAs}
-use Rattle.conversion.specs.Conversion.{convertOperations, convertCommand, convertScheme, cellExists}
+use Rattle.laws.proofs.Bools.{and-left, and-right, and-both, first-pass, must-pass}
+use Rattle.model.proofs.Form.{Fits, Body, Tested, Formed, formed-command}
+use Rattle.model.proofs.Translation.{translation}
+use Rattle.conversion.specs.Conversion.{keepsAll, conversionFault, convertible, convertTest, onPartner, convertAs}
+use Rattle.conversion.specs.Conversion.{convertOperations, convertCommand, convertScheme}
 use Rattle.conversion.specs.Demand3.{Mirror, Mirrors}
 use Rattle.conversion.proofs.Lists.{few-rights}
 use Rattle.conversion.proofs.Mirror.{partner-is, mirror-enter, mirror-delete}
 use Rattle.conversion.proofs.Built.{its-parameters, its-tests, its-operations, its-commands}
 
--- ---- outcomes: the robot's and the office's, both done and mirrored, or both refused with the same number
+-- ---- the relation: an office's set and the robot's, where there is a cell
 
-abbrev pub Alike : Head → Outcome State → Outcome State → Type 0
-Alike h robot office = Agree (λ (b a : State). Mirrors h a b) robot office
+abbrev Mirrored : ℕ → Bool → ℕ → ℕ → Type 0
+Mirrored n exists office robot = T exists → Mirror n office robot
 
--- ---- what converting leaves of the operations: the same parameters are new
+module _ {h : Head} {office robot : State} where
+  related : Mirrors h office robot → Related (Mirrored (h .rights)) h office robot
+  related m = record { sameThings = m .sameThings; cells = m .mirror }
 
-created : (n p : ℕ) (o : Operation) (rest : List Operation) (c : Code) → o .code ≡ c →
-    isNew (convertAs n o c ++ rest) p ≡ (creates p o || isNew rest p)
-unfolding isNew any creates onPartner
-created n p o rest Enter e = rw e
-created n p o rest Delete e = rw e
-created n p o rest Create e = refl
-created n p o rest Destroy e = refl
+  mirrors : Related (Mirrored (h .rights)) h office robot → Mirrors h office robot
+  mirrors r = record { sameThings = r .sameThings; mirror = r .cells }
 
-new-same : (n : ℕ) (os : List Operation) (p : ℕ) → isNew (convertOperations n os) p ≡ isNew os p
-unfolding convertOperations isNew any
-new-same n [] p = refl
-new-same n (o ∷ os) p = created n p o (convertOperations n os) (o .code) refl ∙ ap (λ (b : Bool). creates p o || b) (new-same n os p)
-
-cell-exists : (h : Head) (p : State) (x y : ℕ) → Cell h p x y → T (cellExists h p x y)
-unfolding cellExists
-cell-exists h p x y c = rw (c .rowIs) (and-both (isSubject h (c .row)) _ (c .subject) (c .column))
+-- ---- what conversion makes of a command
 
 module _ (h : Head) (small : h .rights ≤ 32) where
-  -- ---- the operations
+  abbrev n : ℕ
+  n = h .rights
 
-  mirror-cond : (c : Bool) (f g g′ : ℕ → ℕ) (u v : ℕ) → (Mirror (h .rights) u v → Mirror (h .rights) (f u) (g′ (g v))) →
-      Mirror (h .rights) u v → Mirror (h .rights) (cond c (f u) u) (cond c (g′ (cond c (g v) v)) (cond c (g v) v))
-  mirror-cond true f g g′ u v law m = law m
-  mirror-cond false f g g′ u v law m = m
-
-  -- one change of the office's cell, two of the robot's
-  changed : (a b : State) → Mirrors h a b → (f g g′ : ℕ → ℕ) →
-      ((u v : ℕ) → Mirror (h .rights) u v → Mirror (h .rights) (f u) (g′ (g v))) → (x y : ℕ) →
-      Mirrors h (record { typeOf = a .typeOf; rights = changeCell f x y (a .rights) })
-      (record { typeOf = b .typeOf; rights = changeCell g′ x y (changeCell g x y (b .rights)) })
-  unfolding cellExists changeCell
-  changed a b m f g g′ law x y =
+  change-becomes : (types : List ThingType) (o : Operation) (c : Code) → o .code ≡ c → T (keepsThings c) → Fits h types o c →
+      ChangeBecomes (Mirrored n) o (convertAs n o c)
+  unfolding changedBy changedByAll onPartner changesCell all
+  change-becomes types o Enter e k f =
       record {
-        sameThings = m .sameThings;
-        mirror = λ u v t. mirror-cond (eqb u x && eqb v y) f g g′ (a .rights u v) (b .rights u v) (law _ _) (m .mirror u v t);
+        isChange = rw e tt;
+        sameCell = rw e (search (and-both, eqb-refl));
+        keeps = λ b u v m t. rw (e, partner-is n (o .right .0) small (f .right)) (mirror-enter n (o .right .0) u v small (f .right) (m t));
+      }
+  change-becomes types o Delete e k f =
+      record {
+        isChange = rw e tt;
+        sameCell = rw e (search (and-both, eqb-refl));
+        keeps = λ b u v m t. rw (e, partner-is n (o .right .0) small (f .right)) (mirror-delete n (o .right .0) u v small (f .right) (m t));
+      }
+  change-becomes types o Create e k f = absurd k
+  change-becomes types o Destroy e k f = absurd k
+
+  operations-become : (types : List ThingType) (i j k : ℕ) (os : List Operation) → T (keepsAll os) → Body h types k os →
+      OperationsBecome (Mirrored n) i j os (convertOperations n os)
+  unfolding all convertOperations
+  operations-become types i j k [] keeps body = end
+  operations-become types i j k (o ∷ os) keeps (next, body) =
+      change (change-becomes types o (o .code) refl (search and-left) (next .fits)) (operations-become types _ _ _ os (search and-right) body)
+
+  test-becomes : (t : Test) → t .right .0 < n → TestBecomes (Mirrored n) t (convertTest n t)
+  unfolding convertTest verdict
+  test-becomes t r = go (t .present) refl
+    where
+      absent : Test
+      absent = record { present = true; right = partnerOf n (t .right); row = t .row; column = t .column }
+
+      go : (p : Bool) → t .present ≡ p → TestBecomes (Mirrored n) t (cond p t absent)
+      go true e = record { row = refl; column = refl; same = λ u v m. rw e (m tt .plain (t .right .0) r) }
+      go false e = record { row = refl; column = refl; same = λ u v m. rw (e, partner-is n (t .right .0) small r) (m tt .partner (t .right .0) r) }
+
+  tests-become : (types : List ThingType) (os : List Operation) (ts : List Test) → Each (Tested h types os) ts →
+      Forall₂ (TestBecomes (Mirrored n)) ts (map (convertTest n) ts)
+  tests-become types os [] each = Forall₂·nil
+  tests-become types os (t ∷ ts) (k, each) = Forall₂·cons (test-becomes t (k .cell .right)) (tests-become types os ts each)
+
+  command-becomes : (c : Command) → Formed h c → T (keepsAll (operationsOf (c .operations))) → CommandBecomes (Mirrored n) c (convertCommand n c)
+  command-becomes c form keeps =
+      record {
+        sameParameters = its-parameters n c;
+        tests = rw (its-tests n c) (tests-become (parametersOf (c .parameters)) (operationsOf (c .operations)) (testsOf (c .tests)) (form .tests));
+        operations = rw (its-operations n c) (operations-become (parametersOf (c .parameters)) 0 0 0 (operationsOf (c .operations)) keeps (form .body));
       }
 
-  module _ (types : List ThingType) (ids : List ℕ) where
-    one-alike : (o : Operation) (os os′ : List Operation) (c : Code) → o .code ≡ c → T (keepsThings c) → Fits h types o c →
-        ((a b : State) → Mirrors h a b → Alike h (operateAll papers types ids os′ b) (operateAll papers types ids os a)) →
-        (a b : State) → Mirrors h a b →
-        Alike h (operateAll papers types ids (convertAs (h .rights) o c ++ os′) b) (operateAll papers types ids (o ∷ os) a)
-    unfolding operateAll operate act andThen onPartner partnerOf papers
-    one-alike o os os′ Enter e k f law a b m =
-        rw e (law _ _ (changed a b m (enterRight (o .right .0)) (enterRight (o .right .0)) _
-        (λ u v. rw (partner-is (h .rights) (o .right .0) small (f .right)) (mirror-enter (h .rights) (o .right .0) u v small (f .right))) _ _))
-    one-alike o os os′ Delete e k f law a b m =
-        rw e (law _ _ (changed a b m (deleteRight (o .right .0)) (deleteRight (o .right .0)) _
-        (λ u v. rw (partner-is (h .rights) (o .right .0) small (f .right)) (mirror-delete (h .rights) (o .right .0) u v small (f .right))) _ _))
-    one-alike o os os′ Create e k f law a b m = absurd k
-    one-alike o os os′ Destroy e k f law a b m = absurd k
+  commands-become : (cs : List Command) → T (all (acceptedCommand h) cs) → T (all (λ c. keepsAll (operationsOf (c .operations))) cs) →
+      Forall₂ (CommandBecomes (Mirrored n)) cs (map (convertCommand n) cs)
+  unfolding all
+  commands-become [] ok keeps = Forall₂·nil
+  commands-become (c ∷ cs) ok keeps =
+      Forall₂·cons (command-becomes c (formed-command h c (search and-left)) (search and-left)) (commands-become cs (search and-right) (search and-right))
 
-    operations-alike : (k : ℕ) (os : List Operation) → T (all (λ o. keepsThings (o .code)) os) → Body h types k os →
-        (a b : State) → Mirrors h a b →
-        Alike h (operateAll papers types ids (convertOperations (h .rights) os) b) (operateAll papers types ids os a)
-    unfolding all convertOperations operateAll
-    operations-alike k [] keeps body a b m = m
-    operations-alike k (o ∷ os) keeps (next, body) a b m =
-        one-alike o os _ (o .code) refl (search and-left) (next .fits) (operations-alike _ os (search and-right) body) a b m
+translates : (s : Scheme) → T (acceptedScheme s) → T (convertible s) → Translates (Mirrored (s .head .rights)) s (convertScheme s)
+unfolding acceptedScheme convertible conversionFault
+translates s ok cv =
+    rw (its-commands s) (commands-become (s .head) (few-rights s cv) (commandsOf s) (search (and-left, and-right)) (search (first-pass, must-pass)))
 
-    -- ---- the tests
+-- ---- any list of requests
 
-    test-alike : (a b : State) (t : Test) →
-        Mirror (h .rights) (a .rights (idAt ids (t .row)) (idAt ids (t .column))) (b .rights (idAt ids (t .row)) (idAt ids (t .column))) →
-        t .right .0 < h .rights → holds papers b ids (convertTest (h .rights) t) ≡ holds papers a ids t
-    unfolding holds papers convertTest partnerOf
-    test-alike a b t m r = go (t .present) refl
-      where
-        absent : Test
-        absent = record { present = true; right = partnerOf (h .rights) (t .right); row = t .row; column = t .column }
+module _ (s : Scheme) (ok : T (acceptedScheme s)) (cv : T (convertible s)) (office robot : State) (m : Mirrors (s .head) office robot) (qs : List Request) where
+  together : Together (Mirrored (s .head .rights)) s (convertScheme s) office robot qs
+  together = translation (Mirrored (s .head .rights)) s (convertScheme s) office robot qs ok (translates s ok cv) (related m)
 
-        go : (p : Bool) → t .present ≡ p → holds papers b ids (cond p t absent) ≡ holds papers a ids t
-        go true e = rw e (m .plain (t .right .0) r)
-        go false e = rw (e, partner-is (h .rights) (t .right .0) small r) (m .partner (t .right .0) r)
+  pub same-answers : answers papers (convertScheme s) robot qs ≡ answers papers s office qs
+  same-answers = together .sameAnswers
 
-    tests-alike : (a b : State) → Mirrors h a b → (os : List Operation) → Fit types ids a os → (ts : List Test) → Each (Tested h types os) ts →
-        all (holds papers b ids) (map (convertTest (h .rights)) ts) ≡ all (holds papers a ids) ts
-    unfolding all
-    tests-alike a b m os fit [] each = refl
-    tests-alike a b m os fit (t ∷ ts) (k, each) =
-        let cell = there h types ids a os fit (t .right) (t .row) (t .column) (k .cell) (k .oldRow) (k .oldColumn) in
-        ap₂ (λ (p q : Bool). p && q)
-        (test-alike a b t (m .mirror _ _ (cell-exists h a _ _ cell)) (k .cell .right))
-        (tests-alike a b m os fit ts each)
-
-  -- ---- one request
-
-  carry-alike : (a b : State) → Mirrors h a b → (ids : List ℕ) (c : Command) → Formed h c →
-      T (all (λ o. keepsThings (o .code)) (operationsOf c)) →
-      Alike h (carryOut papers b ids (convertCommand (h .rights) c)) (carryOut papers a ids c)
-  unfolding carryOut papers
-  carry-alike a b m ids c form keeps =
-      rw (its-parameters (h .rights) c, its-tests (h .rights) c, its-operations (h .rights) c)
-      (unless-agree (λ (b a : State). Mirrors h a b) _ _ _ _
-      (or-same _ _ _ _ refl λ long.
-      or-same _ _ _ _ (places-same papers papers b a (λ x. ap (λ f. f x) (m .sameThings)) _ _ (new-same (h .rights) os) 0 types ids) λ ok.
-      ap (λ (p : Bool). must p 14) (tests-alike types ids a b m os (λ q l. placed-at a os types ids long ok q l .old) (testsOf c) (form .tests)))
-      (λ ok. operations-alike types ids 0 os keeps (form .body) a b m))
-    where
-      types : List ThingType
-      types = parametersOf c
-
-      os : List Operation
-      os = operationsOf c
-
-get-map : {A B : Type 0} (f : A → B) (l : List A) (k : ℕ) → getElem? (map f l) k ≡ Option·map f (getElem? l k)
-get-map f [] k = refl
-get-map f (a ∷ l) zero = refl
-get-map f (a ∷ l) (suc k) = get-map f l k
-
-pub step-alike : (s : Scheme) → T (acceptedScheme s) → T (convertible s) → (a b : State) → Mirrors (s .head) a b → (q : Request) →
-    Alike (s .head) (step papers (convertScheme s) b q) (step papers s a q)
-unfolding step carryOutIf convertible conversionFault
-step-alike s ok cv a b m q =
-    rw (its-commands s, get-map (convertCommand (s .head .rights)) (commandsOf s) (q .command)) (go (getElem? (commandsOf s) (q .command)) refl)
-  where
-    keeps : T (all (λ c. all (λ o. keepsThings (o .code)) (operationsOf c)) (commandsOf s))
-    keeps = search (first-pass, must-pass)
-
-    go : (o : Option Command) → getElem? (commandsOf s) (q .command) ≡ o →
-        Alike (s .head) (carryOutIf papers b (q .ids) (Option·map (convertCommand (s .head .rights)) o)) (carryOutIf papers a (q .ids) o)
-    go none e = refl
-    go (some c) e =
-        carry-alike (s .head) (few-rights s cv) a b m (q .ids) c (formed s ok (q .command) c e)
-        (all-get (λ c. all (λ o. keepsThings (o .code)) (operationsOf c)) (commandsOf s) keeps (q .command) c e)
+  pub still-mirrors : (k : ℕ) → Mirrors (s .head) (run papers s office (take k qs)) (run papers (convertScheme s) robot (take k qs))
+  still-mirrors k = mirrors (together .afterEach k)

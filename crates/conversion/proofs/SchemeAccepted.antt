@@ -2,23 +2,20 @@
 -- Assumes nothing.
 use Prim.Native.Nat.{ℕ, _*_, _≤_, _<_}
 use mathlib.Core.Path.{_≡_, refl}
-use mathlib.Core.Bool.{Bool, false}
 use mathlib.Core.Option.{some}
 use mathlib.Core.List.{List, [], _∷_, map}
 use native.Mathlib.Omega.{arith}
 use lib.Dec.{T, ltb, leb, leb→le, le→leb, ltb→lt, lt→ltb}
 use lib.ListN.{length, length-map, length-take}
-use lib.Seq.{take-append-seam}
 use Rattle.rights.specs.Sets.{partner}
 use Rattle.rights.specs.declared.Right.{Right}
 use Rattle.rights.specs.declared.ThingType.{ThingType}
 use Rattle.rights.specs.declared.Parameter.{Parameter}
-use Rattle.model.specs.Check.{Fault, _orElse_, must, passes, all}
-use Rattle.model.specs.Scheme.{parametersOf, testsOf, operationsOf, commandsOf, isSubject}
-use Rattle.model.specs.Seats.{noType}
-use Rattle.model.specs.Arrays.{test, operation, command}
-use Rattle.model.specs.Accepted.{between, firstFault, headFault, typeRange, rowFault, testFault, group, lastGroup, changeFault, codeFault}
-use Rattle.model.specs.Accepted.{operationFault, operationsFault, commandFault, zeroType, zeroTest, zeroOperation, paddedCommand, zeroCommand}
+use Rattle.laws.specs.Check.{Fault, _orElse_, must, passes, all, between, firstFault}
+use Rattle.model.specs.Scheme.{parametersOf, testsOf, operationsOf, commandsOf, isSubject, keepsThings}
+use Rattle.model.specs.Arrays.{commandOf, schemeOf}
+use Rattle.model.specs.Accepted.{headFault, typeRange, rowFault, testFault, group, lastGroup, changeFault, codeFault}
+use Rattle.model.specs.Accepted.{operationFault, operationsFault}
 use Rattle.model.specs.Accepted.{acceptedCommand, acceptedScheme}
 use Rattle.model.specs.declared.Test.{Test}
 use Rattle.model.specs.declared.Code.{Code}
@@ -27,11 +24,13 @@ use Rattle.model.specs.declared.Operation.{Operation}
 use Rattle.model.specs.declared.Command.{Command}
 use Rattle.model.specs.declared.Head.{Head}
 use Rattle.model.specs.declared.Scheme.{Scheme}
-use Rattle.model.proofs.Bools.{and-both, and-left, and-right, must-pass, first-pass, then-pass, must-true, both-pass, between-is}
-use Rattle.model.proofs.Padded.{padded-list, used}
-use Rattle.conversion.specs.Conversion.{keepsThings, partnerOf, convertTest, onPartner, convertAs, convertOperations, convertCommand, convertScheme}
-use Rattle.conversion.specs.Conversion.{conversionFault, convertible}
+use Rattle.laws.proofs.Bools.{and-both, and-left, and-right, must-pass, first-pass, then-pass, must-true, both-pass}
+use Rattle.model.proofs.Form.{group-one}
+use Rattle.model.proofs.Built.{built, parts, scheme-built}
+use Rattle.conversion.specs.Conversion.{convertTest, onPartner, convertAs, convertOperations, convertCommand, convertScheme}
+use Rattle.conversion.specs.Conversion.{keepsAll, conversionFault, convertible}
 use Rattle.conversion.proofs.Lists.{few-rights, by-cond}
+use Rattle.rights.specs.Numberings.{partnerOf}
 
 ruleset passed = (first-pass, then-pass, must-pass)
 
@@ -45,9 +44,6 @@ first-map f f′ c law (x ∷ xs) t =
     both-pass (f′ (c x)) _ (law x (first-pass (f x) _ t)) (first-map f f′ c law xs (then-pass (f x) _ t))
 
 -- ---- enters and deletes: their form depends on nothing before them but its group
-
-abbrev pub keepsAll : List Operation → Bool
-keepsAll os = all (λ o. keepsThings (o .code)) os
 
 -- what the partner undergoes; of a code that keeps things no other
 abbrev other : Code → Code
@@ -74,12 +70,6 @@ length-operations n [] kept = refl
 length-operations n (o ∷ os) kept =
     let later = length-operations n os (search and-right) in
     rw (as-two n o (o .code) (search and-left)) (omega arith)
-
-group-one : (c : Code) → T (keepsThings c) → group c ≡ 1
-group-one Enter t = refl
-group-one Delete t = refl
-group-one Create t = absurd t
-group-one Destroy t = absurd t
 
 module _ (h : Head) (types : List ThingType) (tests : List Test) (before : List Operation) (o : Operation) where
   code-change : (c : Code) → T (keepsThings c) → codeFault h types tests before o c ≡ changeFault h types o
@@ -118,7 +108,7 @@ module _ (k : ℕ) (h : Head) (few : h .rights ≤ 32) (types : List ThingType) 
     plain-fits = cell-fits r (λ lt. omega arith)
 
     partner-fits : T (passes (cellFault (doubled k h) types (partnerOf (h .rights) r) i j))
-    unfolding partnerOf partner
+    unfolding partner
     partner-fits = cell-fits (partnerOf (h .rights) r) (λ lt. omega arith)
 
   test-fits : (t : Test) → T (passes (testFault h types t)) → T (passes (testFault (doubled k h) types (convertTest (h .rights) t)))
@@ -142,85 +132,32 @@ module _ (k : ℕ) (h : Head) (few : h .rights ≤ 32) (types : List ThingType) 
       (search and-right) (then-pass _ _ t) in
       rw (as-two (h .rights) o (o .code) here) (both-pass _ _ one (both-pass _ _ two later))
 
--- ---- a command by its lists
+-- ---- a command by its parts
 
-record Parts (h : Head) (ks : List ThingType) (ts : List Test) (os : List Operation) : Type 0 where
-  someParameters : 1 ≤ length ks
-  fewParameters : length ks ≤ 8
-  types : T (passes (firstFault (typeRange h) ks))
-  fewTests : length ts ≤ 16
-  tests : T (passes (firstFault (testFault h ks) ts))
-  someOperations : 1 ≤ length os
-  fewOperations : length os ≤ 32
-  operations : T (passes (operationsFault h ks ts [] os))
-
-built-padded : (ks : List ThingType) (ts : List Test) (os : List Operation) → length ks ≤ 8 → length ts ≤ 16 → length os ≤ 32 →
-    T (paddedCommand (command ks ts os))
-unfolding paddedCommand zeroType zeroTest zeroOperation
-built-padded ks ts os lk lt lo =
-    let a = padded-list zeroType 8 ks noType tt lk in
-    let b = padded-list zeroTest 16 ts (test false 0 0 0) tt lt in
-    let c = padded-list zeroOperation 32 os (operation Enter 0 0 0) tt lo in
-    search and-both
-
-built : (h : Head) (ks : List ThingType) (ts : List Test) (os : List Operation) → Parts h ks ts os → T (acceptedCommand h (command ks ts os))
-unfolding acceptedCommand commandFault
-built h ks ts os l =
-    let a = between-is 1 8 (length ks) (l .someParameters) (l .fewParameters) in
-    let b = le→leb (length ts) 16 (l .fewTests) in
-    let c = between-is 1 32 (length os) (l .someOperations) (l .fewOperations) in
-    let d = built-padded ks ts os (l .fewParameters) (l .fewTests) (l .fewOperations) in
-    rw (take-append-seam ks _, take-append-seam ts _, take-append-seam os _) (search (and-both, both-pass, must-true) depth 9)
-
-zero-built : T (zeroCommand (command [] [] []))
-unfolding zeroCommand
-zero-built = built-padded [] [] [] (omega arith) (omega arith) (omega arith)
-
-parts : (h : Head) (c : Command) → T (acceptedCommand h c) → Parts h (parametersOf c) (testsOf c) (operationsOf c)
-unfolding acceptedCommand commandFault paddedCommand between
-parts h c ok =
-    let t : T (passes (commandFault h c)) = search and-left in
-    let few = leb→le (c .parameters .count) 8 (search (passed, and-right)) in
-    let fewer = leb→le (c .tests .count) 16 (search passed) in
-    let some = leb→le 1 (c .operations .count) (search (passed, and-left) depth 8) in
-    let most = leb→le (c .operations .count) 32 (search (passed, and-right) depth 8) in
-    let ks = used zeroType 8 (c .parameters .count) (c .parameters .types) (search (and-left, and-right)) few in
-    let ts = used zeroTest 16 (c .tests .count) (c .tests .list) (search (and-left, and-right)) fewer in
-    let os = used zeroOperation 32 (c .operations .count) (c .operations .list) (search (and-left, and-right)) most in
-    record {
-      someParameters = rw ks (leb→le 1 _ (search (passed, and-left)));
-      fewParameters = omega arith;
-      types = search passed;
-      fewTests = omega arith;
-      tests = search passed;
-      someOperations = omega arith;
-      fewOperations = omega arith;
-      operations = search passed depth 8;
-    }
-
-command-accepted : (k : ℕ) (h : Head) → h .rights ≤ 32 → (c : Command) → T (acceptedCommand h c) → T (keepsAll (operationsOf c)) →
+command-accepted : (k : ℕ) (h : Head) → h .rights ≤ 32 → (c : Command) → T (acceptedCommand h c) → T (keepsAll (operationsOf (c .operations))) →
     T (leb (c .operations .count) 16) → T (acceptedCommand (doubled k h) (convertCommand (h .rights) c))
-unfolding convertCommand typeRange
+unfolding convertCommand typeRange commandOf
 command-accepted k h few c ok kept short =
     let l = parts h c ok in
-    let twice = length-operations (h .rights) (operationsOf c) kept in
+    let twice = length-operations (h .rights) (operationsOf (c .operations)) kept in
     let most = leb→le (c .operations .count) 16 short in
     let least = length-take (c .operations .count) (c .operations .list) in
     built (doubled k h) _ _ _ (record {
       someParameters = l .someParameters;
       fewParameters = l .fewParameters;
-      types = l .types;
+      typesPass = l .typesPass;
       fewTests = simp length-map (l .fewTests);
-      tests = first-map _ _ _ (test-fits k h few (parametersOf c)) (testsOf c) (l .tests);
+      testsPass = first-map _ _ _ (test-fits k h few (parametersOf (c .parameters))) (testsOf (c .tests)) (l .testsPass);
       someOperations = omega (arith, l .someOperations);
       fewOperations = omega arith;
-      operations = operations-fit k h few (parametersOf c) (testsOf c) _ [] [] (operationsOf c) (omega arith) kept (l .operations);
+      operationsPass =
+          operations-fit k h few (parametersOf (c .parameters)) (testsOf (c .tests)) _ [] [] (operationsOf (c .operations)) (omega arith) kept (l .operationsPass);
     })
 
 -- ---- a scheme
 
 commands-accepted : (k : ℕ) (h : Head) → h .rights ≤ 32 → (cs : List Command) → T (all (acceptedCommand h) cs) →
-    T (all (λ c. keepsAll (operationsOf c)) cs) → T (all (λ c. leb (c .operations .count) 16) cs) →
+    T (all (λ c. keepsAll (operationsOf (c .operations))) cs) → T (all (λ c. leb (c .operations .count) 16) cs) →
     T (all (acceptedCommand (doubled k h)) (map (convertCommand (h .rights)) cs))
 unfolding all
 commands-accepted k h few [] ok kept short = tt
@@ -229,35 +166,14 @@ commands-accepted k h few (c ∷ cs) ok kept short =
     let later = commands-accepted k h few cs (search and-right) (search and-right) (search and-right) in
     search and-both
 
-module _ (s : Scheme) (ok : T (acceptedScheme s)) (can : T (convertible s)) where
-  abbrev cs : List Command
-  cs = map (convertCommand (s .head .rights)) (commandsOf s)
+some-rights : (s : Scheme) → T (acceptedScheme s) → 1 ≤ s .head .rights
+unfolding acceptedScheme headFault between
+some-rights s ok = let t : T (passes (headFault (s .head))) = search and-left in leb→le 1 (s .head .rights) (search (passed, and-left))
 
-  head-passes : T (passes (headFault (s .head)))
-  unfolding acceptedScheme
-  head-passes = search and-left
-
-  few-counted : s .head .count ≤ 32
-  unfolding headFault between
-  few-counted = let t = head-passes in leb→le _ 32 (search (passed, and-right))
-
-  many-commands : length cs ≡ s .head .count
-  unfolding acceptedScheme
-  many-commands = simp length-map (used zeroCommand 32 (s .head .count) (s .commands) (search and-right) few-counted)
-
-  head-accepted : T (passes (headFault (convertScheme s .head)))
-  unfolding headFault between convertScheme
-  head-accepted =
-      let t = head-passes in
-      let some = leb→le 1 (s .head .rights) (search (passed, and-left)) in
-      let few = few-rights s can in
-      let twice = between-is 1 64 (2 * s .head .rights) (omega arith) (omega arith) in
-      rw many-commands (search (both-pass, must-true, passed) depth 8)
-
-  pub scheme-accepted : T (acceptedScheme (convertScheme s))
-  unfolding acceptedScheme convertScheme convertible conversionFault
-  scheme-accepted =
-      let head = head-accepted in
-      let each = commands-accepted (length cs) (s .head) (few-rights s can) (commandsOf s) (search (and-left, and-right)) (search passed) (search passed) in
-      let pad = padded-list zeroCommand 32 cs (command [] [] []) zero-built (omega (arith, many-commands, few-counted)) in
-      rw take-append-seam (search and-both)
+pub scheme-accepted : (s : Scheme) → T (acceptedScheme s) → T (convertible s) → T (acceptedScheme (convertScheme s))
+unfolding acceptedScheme convertScheme convertible conversionFault schemeOf
+scheme-accepted s ok can =
+    let some = some-rights s ok in
+    let few = few-rights s can in
+    scheme-built s ok (2 * s .head .rights) (omega arith) (omega arith) (convertCommand (s .head .rights))
+    (commands-accepted _ (s .head) few (commandsOf s) (search (and-left, and-right)) (search passed) (search passed))

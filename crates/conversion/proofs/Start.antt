@@ -3,12 +3,13 @@
 use Prim.Native.Nat.{_≤_}
 use mathlib.Core.Path.{refl}
 use lib.Dec.{T}
+use Rattle.model.specs.Papers.{cellExists}
 use Rattle.model.specs.Seats.{Matrix, standsFor}
 use Rattle.model.specs.Accepted.{acceptedMatrix}
 use Rattle.model.specs.declared.Head.{Head}
-use Rattle.model.proofs.Bools.{is-true}
+use Rattle.laws.proofs.Bools.{is-true}
 use Rattle.model.proofs.HeldLaws.{held}
-use Rattle.conversion.specs.Conversion.{cellExists, convertState, convertMatrix}
+use Rattle.conversion.specs.Conversion.{convertState, convertMatrix}
 use Rattle.conversion.specs.Demand3.{Mirrors}
 use Rattle.conversion.proofs.Mirror.{mirror-converted}
 use Rattle.conversion.proofs.Converted.{small, joined}

@@ -1,18 +1,15 @@
 -- The outline, "Conversion": a scheme that tests no absence, and the matrix that goes with it. For right r the partner is r + n.
 -- Assumes nothing.
 use Prim.Native.Nat.{ℕ, suc, _*_, _/_, _%_}
-use mathlib.Core.Bool.{Bool, true, false, cond, _&&_}
-use mathlib.Core.Option.{Option, none, some}
+use mathlib.Core.Bool.{Bool, true, cond}
 use mathlib.Core.List.{List, [], _∷_, _++_, map}
 use lib.Dec.{leb}
-use Rattle.rights.specs.Sets.{partner, converted}
-use Rattle.rights.specs.declared.Right.{Right}
-use Rattle.rights.specs.declared.ThingType.{ThingType}
-use Rattle.model.specs.Check.{Fault, _orElse_, must, passes, isSome, all}
-use Rattle.model.specs.Scheme.{parametersOf, testsOf, operationsOf, commandsOf, isSubject}
-use Rattle.model.specs.Papers.{State}
+use Rattle.rights.specs.Sets.{converted}
+use Rattle.laws.specs.Check.{Fault, _orElse_, must, passes, all}
+use Rattle.model.specs.Scheme.{parametersOf, testsOf, operationsOf, commandsOf, keepsThings}
+use Rattle.model.specs.Papers.{State, cellExists}
 use Rattle.model.specs.Seats.{Matrix}
-use Rattle.model.specs.Arrays.{command, scheme}
+use Rattle.model.specs.Arrays.{commandOf, schemeFrom}
 use Rattle.model.specs.Accepted.{standing}
 use Rattle.model.specs.declared.Test.{Test}
 use Rattle.model.specs.declared.Code.{Code}
@@ -22,17 +19,15 @@ use Rattle.model.specs.declared.Command.{Command}
 use Rattle.model.specs.declared.Head.{Head}
 use Rattle.model.specs.declared.Scheme.{Scheme}
 use Rattle.model.specs.declared.Things.{Things}
+use Rattle.rights.specs.Numberings.{partnerOf}
 
 -- ---- which schemes convert: none that creates or destroys (20), n at most 32 (21), at most 16 operations a command (22), each over all of it
-abbrev pub keepsThings : Code → Bool
-keepsThings Enter = true
-keepsThings Delete = true
-keepsThings Create = false
-keepsThings Destroy = false
+abbrev pub keepsAll : List Operation → Bool
+keepsAll os = all (λ o. keepsThings (o .code)) os
 
 unfoldable pub conversionFault : Scheme → Fault
 conversionFault s =
-    must (all (λ c. all (λ o. keepsThings (o .code)) (operationsOf c)) (commandsOf s)) 20
+    must (all (λ c. keepsAll (operationsOf (c .operations))) (commandsOf s)) 20
     orElse must (leb (s .head .rights) 32) 21
     orElse must (all (λ c. leb (c .operations .count) 16) (commandsOf s)) 22
 
@@ -40,9 +35,6 @@ unfoldable pub convertible : Scheme → Bool
 convertible s = passes (conversionFault s)
 
 -- ---- a scheme
-
-unfoldable pub partnerOf : ℕ → Right → Right
-partnerOf n r = record { 0 = partner n (r .0) }
 
 -- "r absent" becomes "partner present"; "r present" stays
 unfoldable pub convertTest : ℕ → Test → Test
@@ -65,30 +57,23 @@ convertOperations n (o ∷ os) = convertAs n o (o .code) ++ convertOperations n 
 
 -- tests and operations keep their order
 unfoldable pub convertCommand : ℕ → Command → Command
-convertCommand n c = command (parametersOf c) (map (convertTest n) (testsOf c)) (convertOperations n (operationsOf c))
+convertCommand n c = commandOf (parametersOf (c .parameters)) (map (convertTest n) (testsOf (c .tests))) (convertOperations n (operationsOf (c .operations)))
 
 -- 2 × n rights, the same types, the commands in the same order
 unfoldable pub convertScheme : Scheme → Scheme
 convertScheme s =
-    scheme (2 * s .head .rights) (s .head .types) (s .head .subjects .0) (map (convertCommand (s .head .rights)) (commandsOf s))
+    schemeFrom (2 * s .head .rights) (s .head .types) (s .head .subjects .0) (map (convertCommand (s .head .rights)) (commandsOf s))
 
 -- a scheme without absence tests, which is all that the robots' controllers can do
 unfoldable pub testsPresence : Scheme → Bool
-testsPresence s = all (λ c. all (λ t. t .present) (testsOf c)) (commandsOf s)
+testsPresence s = all (λ c. all (λ t. t .present) (testsOf (c .tests))) (commandsOf s)
 
 -- ---- a matrix: it keeps its things; every existing cell, empty ones too, gains the partner of each right it lacks
 
 -- on paper
-abbrev pub isSubjectThing : Head → Option ThingType → Bool
-isSubjectThing h none = false
-isSubjectThing h (some t) = isSubject h t
-
-unfoldable pub cellExists : Head → State → ℕ → ℕ → Bool
-cellExists h m x y = isSubjectThing h (m .typeOf x) && isSome (m .typeOf y)
-
 unfoldable pub convertState : Head → State → State
 convertState h m = record {
-  typeOf = m .typeOf;
+  things = m .things;
   rights = λ x y. cond (cellExists h m x y) (converted (h .rights) (m .rights x y)) (m .rights x y);
 }
 

@@ -3,17 +3,18 @@
 use Prim.Native.Nat.{ℕ, _+_, _<_}
 use mathlib.Core.Path.{_≡_}
 use mathlib.Core.Bool.{not}
+use mathlib.Core.Option.{none}
 use mathlib.Core.List.{List, [], _∷_, map}
 use lib.Dec.{T}
 use lib.ListN.{take}
 use Rattle.rights.specs.Sets.{has}
 use Rattle.model.specs.Request.{Request, Outcome, done, refused, step, run, answers}
-use Rattle.model.specs.Papers.{State, papers}
+use Rattle.model.specs.Papers.{State, cellExists, papers}
 use Rattle.model.specs.Seats.{Matrix, standsFor}
 use Rattle.model.specs.Accepted.{acceptedScheme, acceptedMatrix}
 use Rattle.model.specs.declared.Head.{Head}
 use Rattle.model.specs.declared.Scheme.{Scheme}
-use Rattle.conversion.specs.Conversion.{convertible, convertScheme, testsPresence, cellExists, convertMatrix}
+use Rattle.conversion.specs.Conversion.{convertible, convertScheme, testsPresence, convertMatrix}
 
 -- ---- what is compared
 
@@ -24,12 +25,12 @@ pub record Mirror (n office robot : ℕ) : Type 0 where
 
 -- the same things, and so it is in every cell that exists
 pub record Mirrors (h : Head) (office robot : State) : Type 0 where
-  pub sameThings : robot .typeOf ≡ office .typeOf
+  pub sameThings : robot .things ≡ office .things
   pub mirror : (x y : ℕ) → T (cellExists h office x y) → Mirror (h .rights) (office .rights x y) (robot .rights x y)
 
 -- the same things, and no entry that the richer lacks
 pub record Within (poorer richer : State) : Type 0 where
-  pub sameThings : poorer .typeOf ≡ richer .typeOf
+  pub sameThings : poorer .things ≡ richer .things
   pub entries : (x y r : ℕ) → T (has (poorer .rights x y) r) → T (has (richer .rights x y) r)
 
 -- the requests that are carried out before the first refusal
@@ -46,7 +47,7 @@ obeyed s m (q ∷ qs) = onIf (step papers s m q) q (λ next. obeyed s next qs)
 -- ps is all that a robot did which began at `poor` instead of the complete `robot`: the office would have done it from the full matrix in that
 -- order, and the robot then holds no entry that a complete one lacks after just those
 pub record Safe (s : Scheme) (office robot poor : State) (ps : List Request) : Type 0 where
-  pub officeDoes : answers papers s office ps ≡ map (λ q. 0) ps
+  pub officeDoes : answers papers s office ps ≡ map (λ q. none) ps
   pub noEntryMore : Within (run papers (convertScheme s) poor ps) (run papers (convertScheme s) robot ps)
 
 pub record Agree (s : Scheme) (office robot : State) (qs : List Request) : Type 0 where

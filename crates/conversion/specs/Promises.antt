@@ -4,10 +4,11 @@ use Prim.Native.Nat.{ℕ, _+_, _*_, _^_}
 use mathlib.Core.Path.{_≡_}
 use lib.Dec.{T}
 use Rattle.rights.specs.Sets.{complement}
+use Rattle.model.specs.Papers.{cellExists}
 use Rattle.model.specs.Seats.{Matrix, standsFor}
 use Rattle.model.specs.Accepted.{acceptedScheme, acceptedMatrix}
 use Rattle.model.specs.declared.Scheme.{Scheme}
-use Rattle.conversion.specs.Conversion.{convertible, convertScheme, testsPresence, cellExists, convertState, convertMatrix}
+use Rattle.conversion.specs.Conversion.{convertible, convertScheme, testsPresence, convertState, convertMatrix}
 
 pub record Converts : Type 0 where
   -- A converted scheme is accepted, and tests no absence.

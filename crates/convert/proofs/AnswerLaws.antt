@@ -8,12 +8,12 @@ use mathlib.Core.Bool.{Bool, true, false, cond, _&&_, and-false}
 use mathlib.Core.List.{List}
 use lib.Dec.{T}
 use lib.ListN.{length}
-use Rattle.model.specs.Check.{Fault, passes}
+use Rattle.laws.specs.Check.{Fault, passes}
 use Rattle.model.specs.Seats.{Matrix}
 use Rattle.model.specs.Accepted.{headFault, acceptedScheme, acceptedMatrix}
 use Rattle.model.specs.declared.Head.{Head}
 use Rattle.model.specs.declared.Scheme.{Scheme}
-use Rattle.model.proofs.Bools.{is-true, is-false, from-true, and-left, and-right}
+use Rattle.laws.proofs.Bools.{is-true, is-false, from-true, and-left, and-right}
 use Rattle.model.proofs.HeldLaws.{held}
 use Rattle.accepted.specs.Answers.{asChecked}
 use Rattle.accepted.specs.declared.checked.Checked.the-variants as checked
@@ -31,7 +31,7 @@ use Rattle.convert.specs.declared.answers.Conversion.the-variants.{Done,
 use Rattle.convert.specs.declared.answers.SchemeConversion.{SchemeConversion}
 use Rattle.convert.specs.Convert.{schemeFault, matrixFault, convertedBy, convertedScheme, cellsBy, convertedCells}
 use Rattle.convert.specs.Convert.{convertSchemeInto, convertMatrixInto}
-use Rattle.convert.specs.Parts.{convertHead}
+use Rattle.convert.specs.Inner.Parts.{convertHead}
 use Rattle.convert.proofs.SchemeLaws.{head-converted}
 
 -- ---- a scheme as a value

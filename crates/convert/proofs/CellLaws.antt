@@ -14,16 +14,15 @@ use borrow.Author.Tests.{ne-eqb}
 use Rattle.rights.specs.Sets.{complement, converted}
 use Rattle.rights.proofs.Laws.{complement-number}
 use Rattle.rights.proofs.Converted.{converted-lt, converted-number}
-use Rattle.model.specs.Scheme.{isSubject}
-use Rattle.model.specs.Seats.{noType}
+use Rattle.model.specs.Scheme.{isSubject, noType}
 use Rattle.model.specs.Accepted.{standing, acceptedMatrix}
 use Rattle.model.specs.declared.Head.{Head}
 use Rattle.model.specs.declared.Things.{Things}
 use Rattle.model.proofs.HeldLaws.{held}
 use Rattle.conversion.specs.Conversion.{convertCells}
 use Rattle.conversion.proofs.Lists.{length-cells, cells-at}
-use Rattle.convert.specs.Parts.{convertRow}
-use Rattle.convert.proofs.Filling.{Filling, begin, there, unfilled, on, past, part, all-over, kept}
+use Rattle.convert.specs.Inner.Parts.{convertRow}
+use Rattle.laws.proofs.Filling.{Filling, begin, there, unfilled, on, past, part, all-over, kept}
 
 -- ---- a converted set as a word: nothing of the shifted complement is lost
 module _ (n set lacking : ℕ) (h : n ≤ 32) (l : set < 2 ^ n) (e : lacking ≡ complement n set) where

@@ -8,11 +8,10 @@ use mathlib.Core.List.{List, [], _∷_, _++_, map}
 use lib.Dec.{T}
 use lib.ListN.{length, take, drop, set, getD, replicate, length-append, length-replicate, replicate-append-replicate, List·getD-append}
 use lib.Seq.{length-take-le, getD-take, drop-at}
-use Rattle.rights.specs.Sets.{partner}
 use Rattle.rights.specs.declared.Right.{Right}
-use Rattle.model.specs.Check.{all}
-use Rattle.model.specs.Scheme.{parametersOf, testsOf, operationsOf}
-use Rattle.model.specs.Arrays.{operation, command}
+use Rattle.laws.specs.Check.{all}
+use Rattle.model.specs.Scheme.{parametersOf, testsOf, operationsOf, keepsThings}
+use Rattle.model.specs.Arrays.{operation, commandOf, testsFrom, operationsFrom}
 use Rattle.model.specs.Accepted.{paddedCommand}
 use Rattle.model.specs.declared.Test.{Test}
 use Rattle.model.specs.declared.Tests.{Tests}
@@ -21,13 +20,13 @@ use Rattle.model.specs.declared.Code.the-variants.{Enter, Delete, Create, Destr
 use Rattle.model.specs.declared.Operation.{Operation}
 use Rattle.model.specs.declared.Operations.{Operations}
 use Rattle.model.specs.declared.Command.{Command}
-use Rattle.model.proofs.Bools.{and-left, and-right}
-use Rattle.conversion.specs.Conversion.{keepsThings, partnerOf, convertTest, onPartner, convertAs, convertOperations, convertCommand}
+use Rattle.laws.proofs.Bools.{and-left, and-right}
+use Rattle.conversion.specs.Conversion.{convertTest, onPartner, convertAs, convertOperations, convertCommand, keepsAll}
 use Rattle.conversion.proofs.SchemeAccepted.{length-operations}
-use Rattle.scheme_bytes.specs.Read.{commandOf}
-use Rattle.scheme_bytes.proofs.Padded.{padded-lists}
-use Rattle.convert.specs.Parts.{testsFrom, operationsFrom, paddedTests, keepsAll, oppositeOf, Convertible}
-use Rattle.convert.proofs.Filling.{Filling, begin, on, all-in}
+use Rattle.convert.specs.Inner.Parts.{paddedTests, oppositeOf, Convertible}
+use Rattle.laws.proofs.Filling.{Filling, begin, on, all-in}
+use Rattle.rights.specs.Numberings.{partnerOf}
+use Rattle.command_bytes.proofs.Padded.{padded-lists}
 
 -- ---- a test, with the partner that a call gave
 module _ (n : ℕ) (t : Test) where
@@ -35,15 +34,15 @@ module _ (n : ℕ) (t : Test) where
   unfolding convertTest
   test-present e = rw e
 
-  pub test-absent : t .present ≡ false → (p : Right) → p .0 ≡ partner n (t .right .0) →
+  pub test-absent : t .present ≡ false → (p : Right) → p ≡ partnerOf n (t .right) →
       record { present = true; right = p; row = t .row; column = t .column } ≡ convertTest n t
-  unfolding convertTest partnerOf
+  unfolding convertTest
   test-absent e p f = rw (e, ← f)
 
 -- ---- operations: each with its partner's behind it
-pub on-partner : (n : ℕ) (o : Operation) (c : Code) (p : Right) → c ≡ oppositeOf (o .code) → p .0 ≡ partner n (o .right .0) →
+pub on-partner : (n : ℕ) (o : Operation) (c : Code) (p : Right) → c ≡ oppositeOf (o .code) → p ≡ partnerOf n (o .right) →
     record { code = c; right = p; row = o .row; column = o .column } ≡ onPartner n (oppositeOf (o .code)) o
-unfolding onPartner partnerOf
+unfolding onPartner
 on-partner n o c p e f = rw (e, ← f)
 
 module _ (n : ℕ) where
@@ -126,13 +125,13 @@ module _ (c : Command) (v : Convertible c) where
   unfolding paddedCommand
   tests-padded = let p = v .padding in search (and-left, and-right)
 
-  parameters-whole : c .parameters ≡ command (parametersOf c) [] [] .parameters
+  parameters-whole : c .parameters ≡ commandOf (parametersOf (c .parameters)) [] [] .parameters
   unfolding commandOf
   parameters-whole =
       let l = padded-lists c (v .padding) (v .parameters) (v .tests) (omega (arith, v .operations)) in
       ap (λ (d : Command). d .parameters) (l .whole)
 
-  pub command-is : (n : ℕ) (t : Tests) (o : Operations) → t ≡ testsFrom (map (convertTest n) (testsOf c)) →
-      o ≡ operationsFrom (convertOperations n (operationsOf c)) → record { parameters = c .parameters; tests = t; operations = o } ≡ convertCommand n c
-  unfolding convertCommand
+  pub command-is : (n : ℕ) (t : Tests) (o : Operations) → t ≡ testsFrom (map (convertTest n) (testsOf (c .tests))) →
+      o ≡ operationsFrom (convertOperations n (operationsOf (c .operations))) → record { parameters = c .parameters; tests = t; operations = o } ≡ convertCommand n c
+  unfolding convertCommand commandOf
   command-is n t o e f = rw (← parameters-whole, e, f)

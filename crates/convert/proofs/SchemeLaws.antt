@@ -4,32 +4,31 @@ use Prim.Native.Nat.{ℕ, _+_, _≤_, _<_}
 use native.Mathlib.Omega.{arith}
 use mathlib.Core.Path.{_≡_, _∙_}
 use mathlib.Core.Bool.{Bool, true, false}
-use mathlib.Core.List.{List, []}
+use mathlib.Core.List.{List}
 use lib.Dec.{T, leb, leb→le}
 use lib.ListN.{length, take, set, getD}
 use lib.Seq.{length-take-le, getD-take}
 use borrow.Author.Tests.{le-leb, lt-leb}
-use Rattle.model.specs.Check.{_orElse_, must, all}
+use Rattle.laws.specs.Check.{_orElse_, must, all, padded}
 use Rattle.model.specs.Scheme.{operationsOf, commandsOf}
-use Rattle.model.specs.Arrays.{command}
-use Rattle.model.specs.Accepted.{zeroCommand, padded, acceptedCommand, acceptedScheme}
+use Rattle.model.specs.Accepted.{zeroCommand, acceptedCommand, acceptedScheme}
 use Rattle.model.specs.declared.Command.{Command}
 use Rattle.model.specs.declared.Head.{Head}
 use Rattle.model.specs.declared.Scheme.{Scheme}
-use Rattle.model.proofs.Bools.{and-left, and-right, first-pass, then-pass, must-pass}
+use Rattle.laws.proofs.Bools.{and-left, and-right, first-pass, then-pass, must-pass}
 use Rattle.model.proofs.Form.{all-at}
 use Rattle.accepted.specs.Answers.{asChecked}
 use Rattle.accepted.specs.declared.checked.Checked.the-variants as checked
-use Rattle.scheme_bytes.specs.Read.{commandOf, noCommand}
-use Rattle.scheme_bytes.proofs.Padded.{Zero, no-command}
 use Rattle.scheme_write.proofs.WriteLaws.{commands-there, command-small}
-use Rattle.conversion.specs.Conversion.{conversionFault, convertible, convertCommand, convertScheme}
-use Rattle.convert.specs.Parts.{convertHead, keepsAll, Convertible}
-use Rattle.convert.proofs.Filling.{Filling, changed-begin, changed-on, changed-all, changed-used}
+use Rattle.conversion.specs.Conversion.{conversionFault, convertible, convertCommand, convertScheme, keepsAll}
+use Rattle.convert.specs.Inner.Parts.{convertHead, Convertible}
+use Rattle.laws.proofs.Filling.{Filling, changed-begin, changed-on, changed-all, changed-used}
+use Rattle.model.specs.Arrays.{schemeOf}
+use Rattle.command_bytes.proofs.Padded.{no-command}
 
 -- ---- the three checks
 abbrev pub keeps : Command → Bool
-keeps c = keepsAll (operationsOf c)
+keeps c = keepsAll (operationsOf (c .operations))
 
 abbrev pub fits : Command → Bool
 fits c = leb (c .operations .count) 16
@@ -90,10 +89,6 @@ module _ (s : Scheme) (t : T (acceptedScheme s)) where
           keeps = at-place keeps (s .commands) _ m all-keep d j h;
         }
 
-  blank : Zero zeroCommand (command [] [] [])
-  unfolding noCommand commandOf
-  blank = no-command
-
   padding : T (padded zeroCommand 32 (s .head .count) (s .commands))
   unfolding acceptedScheme
   padding = search (and-left, and-right)
@@ -103,21 +98,21 @@ module _ (s : Scheme) (t : T (acceptedScheme s)) where
   Converted commands j = Filling (convertScheme s .commands) (s .commands) commands j
 
   pub converted-begin : Converted (s .commands) 0
-  unfolding convertScheme
-  converted-begin = changed-begin (convertCommand (s .head .rights)) blank 32 (s .head .count) (s .commands) padding (in-range .0)
+  unfolding convertScheme schemeOf
+  converted-begin = changed-begin (convertCommand (s .head .rights)) no-command 32 (s .head .count) (s .commands) padding (in-range .0)
 
   pub converted-on : {commands : List Command} {j : ℕ} → Converted commands j → (d c : Command) → j < s .head .count →
       c ≡ convertCommand (s .head .rights) (getD (s .commands) j d) → Converted (set commands j c) (j + 1)
-  unfolding convertScheme
-  converted-on = changed-on (convertCommand (s .head .rights)) blank 32 (s .head .count) (s .commands) padding (in-range .0)
+  unfolding convertScheme schemeOf
+  converted-on = changed-on (convertCommand (s .head .rights)) no-command 32 (s .head .count) (s .commands) padding (in-range .0)
 
   pub head-converted : convertHead (s .head) ≡ convertScheme s .head
-  unfolding convertScheme
-  head-converted = rw (changed-used (convertCommand (s .head .rights)) blank 32 (s .head .count) (s .commands) padding (in-range .0))
+  unfolding convertScheme schemeOf
+  head-converted = rw (changed-used (convertCommand (s .head .rights)) no-command 32 (s .head .count) (s .commands) padding (in-range .0))
 
   pub converted-all : {commands : List Command} {j : ℕ} → Converted commands j → j ≡ s .head .count → (h : Head) → h ≡ convertHead (s .head) →
       record { head = h; commands = commands } ≡ convertScheme s
-  unfolding convertScheme
+  unfolding convertScheme schemeOf
   converted-all v e h eh =
-      let all = changed-all (convertCommand (s .head .rights)) blank 32 (s .head .count) (s .commands) padding (in-range .0) v e in
+      let all = changed-all (convertCommand (s .head .rights)) no-command 32 (s .head .count) (s .commands) padding (in-range .0) v e in
       λ i. record { head = (eh ∙ head-converted) i; commands = all i }

@@ -3,12 +3,13 @@
 use Prim.Native.Nat.{ℕ}
 use mathlib.Core.Bool.{cond, _&&_}
 use mathlib.Core.Option.{none, some}
-use mathlib.Core.List.{List}
-use Rattle.model.specs.Check.{Fault}
+use mathlib.Core.List.{List, []}
+use Rattle.laws.specs.Check.{Fault}
 use Rattle.model.specs.Seats.{Matrix}
 use Rattle.model.specs.Accepted.{acceptedScheme, acceptedMatrix}
 use Rattle.model.specs.declared.Scheme.{Scheme}
 use Rattle.conversion.specs.Conversion.{conversionFault, convertScheme, convertMatrix}
+use Rattle.records.specs.Told.{Told, told}
 use Rattle.records.specs.Writing.{writeBytes}
 use Rattle.records.specs.declared.Writing.{Writing}
 use Rattle.records.specs.declared.Writing.the-variants as writing
@@ -26,6 +27,12 @@ unfoldable pub matrixFault : Scheme → Matrix → Fault
 matrixFault s m = cond (acceptedScheme s && acceptedMatrix (s .head) m) (conversionFault s) (some 27)
 
 -- ---- as values: a refused one is given back as it was handed in
+
+-- what the answer tells: nothing but the number of the refusal, 0 for success
+abbrev pub ofConversion : Conversion → Told
+ofConversion Done = told 0 []
+ofConversion (Refused k) = told k []
+
 abbrev pub convertedBy : Scheme → Fault → SchemeConversion
 convertedBy s none = record { answer = Done; scheme = convertScheme s }
 convertedBy s (some k) = record { answer = Refused k; scheme = s }

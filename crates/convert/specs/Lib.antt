@@ -1,3 +1,3 @@
 -- What the contracts of `convert` cite beside the definitions of `conversion`.
 pub mod Convert
-pub mod Parts
+pub mod Inner

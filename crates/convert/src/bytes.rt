@@ -10,6 +10,7 @@ ghost use mathlib.Core.Path.{_≡_};
 ghost use mathlib.Core.List.{List};
 ghost use Prim.Native.Nat.{ℕ};
 ghost use lib.ListN.{length};
+ghost use Rattle.model.specs.Seats.{matrixOf};
 ghost use Rattle.convert.specs.Convert.{convertSchemeInto, convertMatrixInto};
 
 // 27, then 20, 21, 22, then 9.
@@ -25,26 +26,15 @@ pub fn convert_scheme(out: &mut [u8], s: Scheme) -> Writing
     }
 }
 
-fn copy_cells(to: &mut [u64], from: &[u64])
-    requires { ⌜ (length (now to) ≡ 2304) × (length (now from) ≡ 2304) ⌝ }
-    ensures { λ _. ⌜ now (to .exit) ≡ now (from .entry) ⌝ }
-{
-    let mut k: usize = 0;
-    while k < 2304 {
-        to[k] = from[k];
-        k += 1;
-    }
-}
-
 // 27, then 20, 21, 22 of the scheme, then 9.
 pub fn convert_matrix(out: &mut [u8], s: Scheme, th: Things, cells: &[u64]) -> Writing
-    ensures { λ r. ⌜ _≡_ {A = Writing × List ℕ} (r, now (out .exit)) (convertMatrixInto (now (out .entry)) s (record { things = th; cells = now (cells .entry) })) ⌝ }
+    ensures { λ r. ⌜ _≡_ {A = Writing × List ℕ} (r, now (out .exit)) (convertMatrixInto (now (out .entry)) s (matrixOf th (now (cells .entry)))) ⌝ }
 {
-    if cells.len() != 2304 {
+    if cells.len() != Things::CELLS {
         return Writing::Refused { number: 27 };
     }
-    let mut copy = [0u64; 2304];
-    copy_cells(&mut copy, cells);
+    let mut copy = [0u64; Things::CELLS];
+    things::copy_cells(&mut copy, cells);
     match converted_cells(s, th, &mut copy) {
         Conversion::Refused(x) => Writing::Refused { number: x },
         Conversion::Done => {

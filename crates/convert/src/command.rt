@@ -11,9 +11,10 @@ ghost use mathlib.Core.Path.{_≡_};
 ghost use mathlib.Core.List.{map};
 ghost use Prim.Native.Nat.{_≤_};
 ghost use lib.Dec.{T};
-ghost use Rattle.accepted.specs.Answers.{listOf, bodyOf};
-ghost use Rattle.conversion.specs.Conversion.{keepsThings, convertTest, onPartner, convertOperations, convertCommand};
-ghost use Rattle.convert.specs.Parts.{testsFrom, operationsFrom, paddedTests, keepsAll, oppositeOf, Convertible};
+ghost use Rattle.conversion.specs.Conversion.{convertTest, onPartner, convertOperations, convertCommand, keepsAll};
+ghost use Rattle.convert.specs.Inner.Parts.{paddedTests, oppositeOf, Convertible};
+ghost use Rattle.model.specs.Scheme.{testsOf, operationsOf, keepsThings};
+ghost use Rattle.model.specs.Arrays.{testsFrom, operationsFrom};
 
 // ---- its tests
 
@@ -38,13 +39,12 @@ fn convert_test(n: u8, t: Test) -> Test
 // Each where it was.
 fn convert_tests(n: u8, t: Tests) -> Tests
     requires { ⌜ (t .count ≤ 16) × T (paddedTests t) ⌝ }
-    ensures { λ r. ⌜ r ≡ testsFrom (map (convertTest n) (listOf t)) ⌝ }
+    ensures { λ r. ⌜ r ≡ testsFrom (map (convertTest n) (testsOf t)) ⌝ }
 {
+    let count = t.count as usize;
     let mut list = t.list;
     let mut j: usize = 0;
-    let mut left = t.count as usize;
-    while 0 < left {
-        left -= 1;
+    while j < count {
         let one = t.list[j];
         list[j] = convert_test(n, one);
         j += 1;
@@ -72,7 +72,7 @@ fn is_change(c: Code) -> bool
 // Whether none of them creates or destroys.
 pub(crate) fn keep_things(o: Operations) -> bool
     requires { ⌜ o .count ≤ 32 ⌝ }
-    ensures { λ r. ⌜ r ≡ keepsAll (bodyOf o) ⌝ }
+    ensures { λ r. ⌜ r ≡ keepsAll (operationsOf o) ⌝ }
 {
     let count = o.count as usize;
     let mut j: usize = 0;
@@ -116,8 +116,8 @@ fn on_partner(n: u8, o: Operation) -> Operation
 
 // Each enter and delete with the opposite of its right's partner behind it.
 fn convert_operations(n: u8, o: Operations) -> Operations
-    requires { ⌜ (o .count ≤ 16) × T (keepsAll (bodyOf o)) ⌝ }
-    ensures { λ r. ⌜ r ≡ operationsFrom (convertOperations n (bodyOf o)) ⌝ }
+    requires { ⌜ (o .count ≤ 16) × T (keepsAll (operationsOf o)) ⌝ }
+    ensures { λ r. ⌜ r ≡ operationsFrom (convertOperations n (operationsOf o)) ⌝ }
 {
     let count = o.count as usize;
     let none = Operation {
@@ -126,7 +126,7 @@ fn convert_operations(n: u8, o: Operations) -> Operations
         row: Parameter(0),
         column: Parameter(0),
     };
-    let mut list = [none; 32];
+    let mut list = [none; Operations::PLACES];
     let mut j: usize = 0;
     while j < count {
         let one = o.list[j];

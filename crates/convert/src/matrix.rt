@@ -2,8 +2,8 @@
 use crate::answers::Conversion;
 use crate::scheme::conversion_fault;
 use accepted::Checked;
-use accepted::matrix_accepted;
 use accepted::scheme_accepted;
+use accepted_matrix::matrix_accepted;
 use model::Head;
 use model::Scheme;
 use model::Things;
@@ -14,9 +14,10 @@ ghost use Prim.Native.Nat.{ℕ, _^_, _≤_, _<_};
 ghost use lib.Dec.{T};
 ghost use lib.ListN.{length, getD};
 ghost use Rattle.rights.specs.Sets.{converted};
+ghost use Rattle.model.specs.Seats.{matrixOf};
 ghost use Rattle.model.specs.Accepted.{acceptedMatrix};
 ghost use Rattle.conversion.specs.Conversion.{convertCells};
-ghost use Rattle.convert.specs.Parts.{convertRow};
+ghost use Rattle.convert.specs.Inner.Parts.{convertRow};
 ghost use Rattle.convert.specs.Convert.{convertedCells};
 
 // A set with the partner of each right it lacks.
@@ -29,12 +30,12 @@ fn convert_set(c: RightSet, n: u8) -> RightSet
 }
 
 // A subject's row: there is a cell in each column that has a thing.
-fn convert_row(ids: [u16; 48], n: u8, row: &mut [u64])
+fn convert_row(ids: [u16; Things::LIMIT], n: u8, row: &mut [u64])
     requires { ⌜ (n ≤ 32) × (length (now row) ≡ 48) × ((j : ℕ) → j < 48 → getD (now row) j 0 < 2 ^ n) ⌝ }
     ensures { λ _. ⌜ now (row .exit) ≡ convertRow n ids (now (row .entry)) ⌝ }
 {
     let mut j: usize = 0;
-    while j < 48 {
+    while j < Things::LIMIT {
         let x = ids[j];
         let c = row[j];
         if x != 0 {
@@ -47,18 +48,18 @@ fn convert_row(ids: [u16; 48], n: u8, row: &mut [u64])
 
 // A row of no subject has no cells, so none of its places is looked at.
 fn convert_cells(h: Head, th: Things, cells: &mut [u64])
-    requires { ⌜ (h .rights ≤ 32) × T (acceptedMatrix h (record { things = th; cells = now cells })) ⌝ }
+    requires { ⌜ (h .rights ≤ 32) × T (acceptedMatrix h (matrixOf th (now cells))) ⌝ }
     ensures { λ _. ⌜ now (cells .exit) ≡ convertCells h th 0 (now (cells .entry)) ⌝ }
 {
     let n = h.rights;
     let ids = th.ids;
     let mut i: usize = 0;
-    while i < 48 {
+    while i < Things::LIMIT {
         if ids[i] != 0 {
             let t = th.types[i];
             if h.subjects.has(t) {
-                let from = i * 48;
-                let to = from + 48;
+                let from = i * Things::LIMIT;
+                let to = from + Things::LIMIT;
                 convert_row(ids, n, &mut cells[from..to]);
             }
         }
@@ -68,7 +69,7 @@ fn convert_cells(h: Head, th: Things, cells: &mut [u64])
 
 // Every existing cell, empty ones too, gains the partner of each right it lacks: 27, then 20, 21, 22 of the scheme.
 pub fn converted_cells(s: Scheme, th: Things, cells: &mut [u64]) -> Conversion
-    ensures { λ r. ⌜ _≡_ {A = Conversion × List ℕ} (r, now (cells .exit)) (convertedCells s (record { things = th; cells = now (cells .entry) })) ⌝ }
+    ensures { λ r. ⌜ _≡_ {A = Conversion × List ℕ} (r, now (cells .exit)) (convertedCells s (matrixOf th (now (cells .entry)))) ⌝ }
 {
     if !scheme_accepted(s) {
         return Conversion::Refused(27);

@@ -6,23 +6,25 @@ use crate::command::keep_things;
 use accepted::Checked;
 use accepted::scheme_accepted;
 use model::Head;
+use model::Operations;
 use model::Scheme;
+use rights::Right;
 ghost use mathlib.Core.Path.{_≡_};
 ghost use Prim.Native.Nat.{_≤_};
 ghost use lib.Dec.{T, leb};
 ghost use Rattle.accepted.specs.Answers.{asChecked};
-ghost use Rattle.model.specs.Check.{all};
+ghost use Rattle.laws.specs.Check.{all};
 ghost use Rattle.model.specs.Scheme.{operationsOf, commandsOf};
 ghost use Rattle.model.specs.Accepted.{acceptedScheme};
-ghost use Rattle.conversion.specs.Conversion.{conversionFault, convertible, convertScheme};
-ghost use Rattle.convert.specs.Parts.{keepsAll, convertHead};
+ghost use Rattle.conversion.specs.Conversion.{conversionFault, convertible, convertScheme, keepsAll};
+ghost use Rattle.convert.specs.Inner.Parts.{convertHead};
 ghost use Rattle.convert.specs.Convert.{convertedScheme};
 
 // ---- what refuses it
 
 fn all_keep_things(s: Scheme) -> bool
     requires { ⌜ T (acceptedScheme s) ⌝ }
-    ensures { λ r. ⌜ r ≡ all (λ c. keepsAll (operationsOf c)) (commandsOf s) ⌝ }
+    ensures { λ r. ⌜ r ≡ all (λ c. keepsAll (operationsOf (c .operations))) (commandsOf s) ⌝ }
 {
     let h = s.head;
     let count = h.count as usize;
@@ -49,7 +51,7 @@ fn all_fit(s: Scheme) -> bool
     while j < count {
         let c = s.commands[j];
         let o = c.operations;
-        if 16 < o.count {
+        if Operations::LIMIT / 2 < o.count {
             return false;
         }
         j += 1;
@@ -66,7 +68,7 @@ pub(crate) fn conversion_fault(s: Scheme) -> Checked
         return Checked::Fault(20);
     }
     let h = s.head;
-    if 32 < h.rights {
+    if Right::LIMIT / 2 < h.rights {
         return Checked::Fault(21);
     }
     if !all_fit(s) {

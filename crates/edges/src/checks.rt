@@ -1,24 +1,25 @@
-// The tasks 40 and 41, which only ask of the scheme and the matrix: what is accepted, and the totals.
+// The tasks 60 to 65, which only ask of the scheme and the matrix: what is accepted, the totals, what the checks of form look up, and seats.
 use crate::case;
+use crate::plans;
 use crate::print;
+use crate::values;
 use model::Scheme;
 use model::Things;
-
-fn command(i: usize, s: Scheme) {
-    let h = s.head;
-    if i < 32 {
-        let c = s.commands[i];
-        print::checked(accepted::command_fault(h, c));
-        print::flag(accepted::command_accepted(h, c));
-    }
-}
+use rights::Parameter;
 
 fn all(s: Scheme, th: Things, cells: &[u64]) {
     let h = s.head;
-    print::checked(accepted::head_fault(h));
+    print::number(accepted::head_fault(h).number() as u64);
     print::flag(accepted::scheme_accepted(s));
-    print::flag(accepted::things_accepted(h, th));
-    print::flag(accepted::matrix_accepted(h, th, cells));
+    print::flag(accepted_matrix::things_accepted(h, th));
+    print::flag(accepted_matrix::matrix_accepted(h, th, cells));
+}
+
+fn command(i: usize, s: Scheme) {
+    let h = s.head;
+    let c = values::command_at(s, i);
+    print::number(accepted::command_fault(h, c).number() as u64);
+    print::flag(accepted::command_accepted(h, c));
 }
 
 fn count(s: Scheme, th: Things, cells: &[u64]) {
@@ -27,20 +28,42 @@ fn count(s: Scheme, th: Things, cells: &[u64]) {
             things,
             cells,
             entries,
-        } => {
-            print::number(0);
-            print::number(things as u64);
-            print::number(cells as u64);
-            print::number(entries as u64);
-        }
+        } => print::numbers(&[0, things as u64, cells as u64, entries as u64]),
         totals::Totals::Refused(x) => print::number(x as u64),
     }
 }
 
+// A command's lists, of which n operations, asked with a parameter; and a code.
+fn form(b: &[u8], n: usize, s: Scheme) {
+    let c = values::command_at(s, case::one_at(b, 0) as usize);
+    let types = c.parameters;
+    let tests = c.tests;
+    let operations = c.operations;
+    let p = Parameter(case::one_at(b, 1));
+    let code = values::code(case::one_at(b, 2));
+    print::number(accepted::type_at(types, p).byte() as u64);
+    print::number(accepted::last_group(operations, n) as u64);
+    print::flag(accepted::creatable(tests, operations, n, p));
+    print::flag(accepted::destroyable(operations, n, p));
+    print::number(accepted::group_of(code) as u64);
+    print::flag(accepted::is_create(code));
+}
+
+fn seats(n: usize, x: u16, th: Things) {
+    let ids = th.ids;
+    print::number(things::seat_in(ids, n, x) as u64);
+    print::number(things::seat_of(ids, x) as u64);
+}
+
 pub(crate) fn task(case: &[u8], s: Scheme, th: Things, cells: &[u64]) {
+    let b = case::bytes(case);
+    let at = case::position(case);
     match case::one_at(case, 0) {
-        50 => all(s, th, cells),
-        51 => command(case::position(case), s),
-        _ => count(s, th, cells),
+        60 => all(s, th, cells),
+        61 => command(at, s),
+        62 => count(s, th, cells),
+        63 => form(b, at, s),
+        64 => seats(at, case::two_at(b, 0), th),
+        _ => plans::locate(b, at, s, th),
     }
 }

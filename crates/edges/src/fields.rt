@@ -1,12 +1,9 @@
-// The tasks that read a position of the case's bytes, 50 to 54: requests, records, bodies and fields.
+// The tasks that read a position of the case's bytes, 70 to 75: requests, records, bodies and fields.
 use crate::case;
 use crate::print;
 use crate::sum;
 use records::Field;
-use records::Field2;
-use records::Field8;
 use records::Kinds;
-use records::RecordAnswer;
 use request_bytes::RequestReading;
 
 fn request_reading(answer: RequestReading) {
@@ -32,16 +29,9 @@ fn read_request(b: &[u8], at: usize) {
 fn record(b: &[u8], at: usize) {
     let kinds = Kinds(case::two_at(b, 0));
     let s = records::body(b, 2, 65536);
-    match records::record_at(s, at, kinds) {
-        RecordAnswer::Record { kind, start, len } => {
-            print::number(0);
-            print::number(kind as u64);
-            print::number(start as u64);
-            print::number(len as u64);
-        }
-        RecordAnswer::Refused { number, at } => print::pair(number, at),
-    }
+    print::record(records::record_at(s, at, kinds));
     print::reading(records::next_record(s, at, kinds));
+    print::record(matrix_records::any_record_at(s, at));
 }
 
 // The length stands before the bytes.
@@ -52,21 +42,10 @@ fn body(b: &[u8], start: usize) {
     print::number(sum::bytes(part));
 }
 
-fn wide_fields(b: &[u8], at: usize) {
-    match records::field2_at(b, at) {
-        Field2::Value(v) => print::pair(0, v as usize),
-        Field2::Fault(x) => print::pair(x, 0),
-    }
-    match records::field8_at(b, at) {
-        Field8::Value(v) => print::pair(0, v as usize),
-        Field8::Fault(x) => print::pair(x, 0),
-    }
-}
-
-fn field(answer: Field) {
-    match answer {
-        Field::Value(v) => print::pair(0, v as usize),
-        Field::Fault(x) => print::pair(x, 0),
+fn limited(answer: Field) {
+    print::number(answer.number() as u64);
+    if let Field::Value(v) = answer {
+        print::number(v as u64);
     }
 }
 
@@ -76,20 +55,30 @@ fn fields(b: &[u8], at: usize) {
     let limit = case::one_at(b, 1);
     let number = case::one_at(b, 2);
     let s = records::body(b, 3, 65536);
-    field(records::byte_at(s, at));
-    field(records::field_at(s, at, low, limit, number));
-    wide_fields(s, at);
+    print::pair(
+        records::byte_at(s, at).number(),
+        case::one_at(s, at) as usize,
+    );
+    limited(records::field_at(s, at, low, limit, number));
+    print::pair(
+        records::field2_at(s, at).number(),
+        case::two_at(s, at) as usize,
+    );
+    print::pair(
+        records::field8_at(s, at).number(),
+        case::eight_at(s, at) as usize,
+    );
 }
 
 pub(crate) fn task(case: &[u8]) {
     let b = case::bytes(case);
     let at = case::position(case);
     match case::one_at(case, 0) {
-        60 => read_request(b, at),
-        61 => request_reading(request_bytes::skip_request(b, at)),
-        62 => record(b, at),
-        63 => body(b, at),
-        64 => fields(b, at),
-        _ => {}
+        70 => read_request(b, at),
+        71 => request_reading(request_bytes::skip_request(b, at)),
+        72 => print::number(request_list::count_requests(b) as u64),
+        73 => record(b, at),
+        74 => body(b, at),
+        _ => fields(b, at),
     }
 }

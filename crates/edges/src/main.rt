@@ -5,86 +5,58 @@ mod checks;
 mod fields;
 mod matrices;
 mod outputs;
+mod parts;
 mod pattern;
+mod plans;
 mod print;
 mod requests;
 mod schemes;
 mod sets;
+mod stores;
 mod sum;
+mod texts;
 mod values;
 
 use libc::STDIN_FILENO;
 use model::Scheme;
 use model::Things;
-use records::Writing;
 ghost use mathlib.Core.Path.{_≡_};
 ghost use lib.ListN.{length};
 
-fn no_things() -> Things {
-    Things {
-        ids: [0; 48],
-        types: [rights::ThingType(0); 48],
-    }
-}
-
-fn write(case: &[u8], s: Scheme, th: Things, cells: &[u64], out: &mut [u8]) -> Writing {
-    let task = case::one_at(case, 0);
-    if task < 32 {
-        return outputs::write_scheme(task, s, out);
-    }
-    if task < 40 {
-        return outputs::write_matrix(task, s, th, cells, out);
-    }
-    outputs::write_at(task, case::bytes(case), case::position(case), out)
-}
-
-// The tasks that only ask.
-fn ask(case: &[u8], s: Scheme, th: Things, cells: &[u64]) {
+// The tasks that leave the matrix as it is.
+fn ask(case: &[u8], s: Scheme, th: Things, cells: &[u64], out: &mut [u8]) {
     match case::one_at(case, 0) / 10 {
-        5 => checks::task(case, s, th, cells),
-        6 => fields::task(case),
-        7 => sets::task(case),
+        3 => outputs::task(case, s, th, cells, out),
+        4 => stores::task(case, out),
+        5 => texts::task(case, out),
+        6 => checks::task(case, s, th, cells),
+        7 => fields::task(case),
+        8 => sets::task(case),
+        9 => parts::task(case, s, th),
         _ => {}
     }
 }
 
-fn told(case: &[u8], s: Scheme, th: Things, cells: &[u64], out: &mut [u8]) {
-    if case::one_at(case, 0) < 50 {
-        print::writing(write(case, s, th, cells, out));
-        print::number(sum::bytes(out));
-        return;
-    }
-    ask(case, s, th, cells);
-}
-
 fn run(case: &[u8], s: Scheme, th: Things, cells: &mut [u64], out: &mut [u8]) -> Things {
-    let b = case::bytes(case);
-    let task = case::one_at(case, 0);
-    match task / 10 {
-        0 => th,
-        1 => matrices::task(task, b, s, th, cells),
-        2 => requests::task(task, b, s, th, cells, out),
+    match case::one_at(case, 0) / 10 {
+        1 => matrices::task(case, s, th, cells),
+        2 => requests::task(case, s, th, cells, out),
         _ => {
-            told(case, s, th, cells, out);
+            ask(case, s, th, cells, out);
             th
         }
     }
 }
 
-// Lends as many cells as the case says, and prints the sum of the matrix afterwards.
-fn lend_cells(case: &[u8], s: Scheme, th: Things, cells: &mut [u64], out: &mut [u8]) -> Things {
+// Lends as many bytes of the buffer, which hold the pattern, and as many cells as the case says; then prints the sum of the matrix afterwards.
+fn lend(case: &[u8], s: Scheme, th: Things, cells: &mut [u64], space: &mut [u8]) -> Things {
+    let n = case::least(case::eight_at(case, 6) as usize, space.len());
     let k = case::least(case::two_at(case, 4) as usize, cells.len());
-    let new = run(case, s, th, &mut cells[0..k], out);
+    pattern::bytes(&mut space[0..n]);
+    let new = run(case, s, th, &mut cells[0..k], &mut space[0..n]);
     print::number(sum::matrix(new, cells));
     print::text(b"\n");
     new
-}
-
-// Lends as many bytes of the buffer as the case says; they hold the pattern.
-fn lend(case: &[u8], s: Scheme, th: Things, cells: &mut [u64], space: &mut [u8]) -> Things {
-    let n = case::least(case::eight_at(case, 6) as usize, space.len());
-    pattern::bytes(&mut space[0..n]);
-    lend_cells(case, s, th, cells, &mut space[0..n])
 }
 
 // The next case of the input, at the start of a buffer, with its label printed; whether there is one.
@@ -107,7 +79,7 @@ fn next(case: &mut [u8]) -> bool {
 // One case behind the other; there are fewer than that.
 fn run_all(case: &mut [u8], cells: &mut [u64], space: &mut [u8]) {
     let mut s = scheme_bytes::no_scheme();
-    let mut th = no_things();
+    let mut th = things::no_things();
     let mut left: usize = 65536;
     while 0 < left {
         if !next(case) {

@@ -1,9 +1,12 @@
-// The tasks 10 to 14, which are lent the cells: a matrix is read, set, or converted.
+// The tasks 10 to 17, which change the things or are lent the cells: a matrix is read, set, copied or converted, and a request planned.
+use crate::case;
+use crate::plans;
 use crate::print;
 use crate::values;
 use matrix_bytes::MatrixAnswer;
 use model::Scheme;
 use model::Things;
+use rights::ThingType;
 
 fn told(read: MatrixAnswer) -> Things {
     let answer = read.answer;
@@ -24,12 +27,31 @@ fn convert(s: Scheme, th: Things, cells: &mut [u64]) -> Things {
     th
 }
 
-pub(crate) fn task(task: u8, b: &[u8], s: Scheme, th: Things, cells: &mut [u64]) -> Things {
+fn copy(b: &[u8], th: Things, cells: &mut [u64]) -> Things {
+    let from = case::numbers(b);
+    let n = b.len() / 8 % 5;
+    things::copy_cells(cells, &from[0..n]);
+    th
+}
+
+// The tasks that need no cells.
+fn alone(task: u8, b: &[u8], at: usize, s: Scheme, th: Things) -> Things {
+    match task {
+        15 => things::no_things(),
+        16 => things::put_thing(th, at, case::two_at(b, 0), ThingType(case::one_at(b, 2))),
+        _ => plans::all(b, at, s, th),
+    }
+}
+
+pub(crate) fn task(case: &[u8], s: Scheme, th: Things, cells: &mut [u64]) -> Things {
+    let b = case::bytes(case);
+    let task = case::one_at(case, 0);
     match task {
         10 => read(false, b, s, th, cells),
         11 => read(true, b, s, th, cells),
-        12 => values::things(b, th),
-        13 => values::cell(b, th, cells),
-        _ => convert(s, th, cells),
+        12 => values::cell(b, th, cells),
+        13 => convert(s, th, cells),
+        14 => copy(b, th, cells),
+        _ => alone(task, b, case::position(case), s, th),
     }
 }

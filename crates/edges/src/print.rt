@@ -1,8 +1,9 @@
-// The parts of a line: numbers, answers, sums.
-use accepted::Checked;
+// The parts of a line: numbers and answers. An answer's number and position are told by its own methods, with 0 for a position that it doesn't have.
+use crate::sum;
 use convert::Conversion;
 use libc::STDOUT_FILENO;
 use records::Reading;
+use records::RecordAnswer;
 use records::Writing;
 
 pub(crate) fn text(bytes: &[u8]) {
@@ -14,43 +15,51 @@ pub(crate) fn number(x: u64) {
     io::print_decimal(STDOUT_FILENO, x);
 }
 
+pub(crate) fn numbers(list: &[u64]) {
+    let mut i: usize = 0;
+    while i < list.len() {
+        number(list[i]);
+        i += 1;
+    }
+}
+
 pub(crate) fn pair(x: u8, y: usize) {
     number(x as u64);
     number(y as u64);
 }
 
 pub(crate) fn flag(holds: bool) {
-    if holds {
-        number(1);
-    } else {
-        number(0);
-    }
+    number(holds as u64);
 }
 
 pub(crate) fn reading(answer: Reading) {
-    match answer {
-        Reading::Done { next } => pair(0, next),
-        Reading::Refused { number, at } => pair(number, at),
+    pair(answer.number(), answer.at());
+    if let Reading::Done { next } = answer {
+        number(next as u64);
     }
+}
+
+pub(crate) fn record(answer: RecordAnswer) {
+    pair(answer.number(), answer.at());
+    if let RecordAnswer::Record { kind, start, len } = answer {
+        number(kind as u64);
+        number(start as u64);
+        number(len as u64);
+    }
+}
+
+// The answer of a writing, and the sum of the buffer that it was lent.
+pub(crate) fn written(answer: Writing, out: &[u8]) {
+    number(answer.number() as u64);
+    if let Writing::Done { next } = answer {
+        number(next as u64);
+    }
+    number(sum::bytes(out));
 }
 
 pub(crate) fn conversion(answer: Conversion) {
     match answer {
         Conversion::Done => number(0),
         Conversion::Refused(x) => number(x as u64),
-    }
-}
-
-pub(crate) fn checked(answer: Checked) {
-    match answer {
-        Checked::Fine => number(0),
-        Checked::Fault(x) => number(x as u64),
-    }
-}
-
-pub(crate) fn writing(answer: Writing) {
-    match answer {
-        Writing::Done { next } => pair(0, next),
-        Writing::Refused { number: x } => number(x as u64),
     }
 }

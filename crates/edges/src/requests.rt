@@ -2,7 +2,6 @@
 use crate::case;
 use crate::print;
 use crate::sum;
-use engine::Answer;
 use engine::Ran;
 use engine::RunAnswer;
 use model::Scheme;
@@ -13,23 +12,25 @@ fn request(b: &[u8], s: Scheme, th: Things, cells: &mut [u64]) -> Things {
     let n = b.len() / 2 % 11;
     let stepped = engine::request(s, th, cells, case::one_at(b, 0), &ids[0..n]);
     let answer = stepped.answer;
-    match answer {
-        Answer::Done => print::number(0),
-        Answer::Refused(x) => print::number(x as u64),
-    }
+    print::number(answer.number as u64);
     stepped.things
 }
 
 // How many requests were answered; with a record that can't be read its position too.
 fn told(ran: Ran) -> Things {
     let answer = ran.answer;
+    print::number(answer.number() as u64);
     match answer {
-        RunAnswer::Whole { count } => print::pair(0, count),
-        RunAnswer::Bad { count, number, at } => {
-            print::pair(number, count);
+        RunAnswer::Whole { count } => print::number(count as u64),
+        RunAnswer::Bad {
+            count,
+            number: _,
+            at,
+        } => {
+            print::number(count as u64);
             print::number(at as u64);
         }
-        RunAnswer::Refused(x) => print::number(x as u64),
+        RunAnswer::Refused(_) => {}
     }
     ran.things
 }
@@ -41,14 +42,14 @@ fn run_list(b: &[u8], s: Scheme, th: Things, cells: &mut [u64], out: &mut [u8]) 
 }
 
 pub(crate) fn task(
-    task: u8,
-    b: &[u8],
+    case: &[u8],
     s: Scheme,
     th: Things,
     cells: &mut [u64],
     out: &mut [u8],
 ) -> Things {
-    match task {
+    let b = case::bytes(case);
+    match case::one_at(case, 0) {
         20 => request(b, s, th, cells),
         21 => run_list(b, s, th, cells, out),
         _ => told(engine::run_quietly(s, th, cells, b)),

@@ -1,4 +1,4 @@
-// The tasks 0 to 4, which change the scheme: it is read, set, or converted.
+// The tasks 0 to 6, which change the scheme: it or a command of it is read, set, or converted.
 use crate::case;
 use crate::print;
 use crate::values;
@@ -18,6 +18,15 @@ fn convert(s: Scheme) -> Scheme {
     converted.scheme
 }
 
+// The place that the command is put at stands before the bytes.
+fn command(b: &[u8], at: usize, s: Scheme) -> Scheme {
+    let h = s.head;
+    let read = command_bytes::read_command(records::body(b, 1, 65536), at, h);
+    let answer = read.answer;
+    print::reading(answer);
+    values::with_command(s, b, read.command)
+}
+
 pub(crate) fn task(case: &[u8], s: Scheme) -> Scheme {
     let b = case::bytes(case);
     match case::one_at(case, 0) {
@@ -26,6 +35,8 @@ pub(crate) fn task(case: &[u8], s: Scheme) -> Scheme {
         2 => values::head(b, s),
         3 => values::commands(b, s),
         4 => convert(s),
+        5 => command(b, case::position(case), s),
+        6 => values::with_command(s, b, command_bytes::no_command()),
         _ => s,
     }
 }

@@ -1,7 +1,8 @@
-// The tasks on a set alone, 60 to 62: all that a set of rights, of types and of kinds is asked.
+// The tasks 80 to 83, on a set or a number alone: all that the sets of rights, of types and of kinds and the three numberings are asked.
 use crate::case;
 use crate::print;
 use records::Kinds;
+use rights::Parameter;
 use rights::Right;
 use rights::RightSet;
 use rights::ThingType;
@@ -11,16 +12,12 @@ fn print_set(set: RightSet) {
     print::number(set.0);
 }
 
-fn print_right(right: Right) {
-    print::number(right.0 as u64);
-}
-
 // A set, a right and a number of rights.
 fn rights_of(b: &[u8]) {
     let set = RightSet(case::eight_at(b, 0));
     let right = Right(case::one_at(b, 8));
     let n = case::one_at(b, 9);
-    print_right(right.partner(n));
+    print::number(right.partner(n).byte() as u64);
     print_set(right.single());
     print_set(RightSet::all(n));
     print::flag(set.has(right));
@@ -39,12 +36,34 @@ fn types_of(b: &[u8]) {
     print::flag(set.within(case::one_at(b, 2)));
 }
 
+// Two numbers, in each of the three numberings.
+fn numbers(x: u8, y: u8) {
+    let r = Right(x);
+    let t = ThingType(x);
+    let p = Parameter(x);
+    print::numbers(
+        &[
+            r.below(y) as u64,
+            r.is_zero() as u64,
+            r.byte() as u64,
+            t.below(y) as u64,
+            t.is(ThingType(y)) as u64,
+            t.is_zero() as u64,
+            t.byte() as u64,
+            p.below(y) as u64,
+            p.is(Parameter(y)) as u64,
+            p.is_zero() as u64,
+            p.byte() as u64,
+        ],
+    );
+}
+
 pub(crate) fn task(case: &[u8]) {
     let b = case::bytes(case);
     match case::one_at(case, 0) {
-        70 => rights_of(b),
-        71 => types_of(b),
-        72 => print::flag(Kinds(case::two_at(b, 0)).has(case::two_at(b, 2))),
-        _ => {}
+        80 => rights_of(b),
+        81 => types_of(b),
+        82 => print::flag(Kinds(case::two_at(b, 0)).has(case::two_at(b, 2))),
+        _ => numbers(case::one_at(b, 0), case::one_at(b, 1)),
     }
 }

@@ -1,4 +1,4 @@
-// Values handed in as no reading gives them: a scheme's head and single places of its arrays, things and cells, set to anything.
+// Values handed in as no reading gives them: a scheme's head and single places of its arrays, and cells, set to anything.
 use crate::case::eight_at;
 use crate::case::one_at;
 use crate::case::two_at;
@@ -7,13 +7,10 @@ use model::Command;
 use model::Head;
 use model::Operation;
 use model::Operations;
-use model::Parameters;
 use model::Scheme;
-use model::Tests;
 use model::Things;
 use rights::Parameter;
 use rights::Right;
-use rights::ThingType;
 use rights::TypeSet;
 
 // n, m, the subject types, how many commands.
@@ -30,7 +27,7 @@ pub(crate) fn head(b: &[u8], s: Scheme) -> Scheme {
 
 // ---- a command: how many parameters, tests and operations, and one of the operations
 
-fn code(x: u8) -> Code {
+pub(crate) fn code(x: u8) -> Code {
     match x {
         1 => Code::Enter,
         2 => Code::Delete,
@@ -58,48 +55,34 @@ fn operations(b: &[u8], o: Operations) -> Operations {
 }
 
 fn command(b: &[u8], c: Command) -> Command {
-    let p = c.parameters;
-    let t = c.tests;
-    let o = c.operations;
-    let types = p.types;
-    let list = t.list;
-    Command {
-        parameters: Parameters {
-            count: one_at(b, 1),
-            types,
-        },
-        tests: Tests {
-            count: one_at(b, 2),
-            list,
-        },
-        operations: operations(b, o),
-    }
+    let parameters = one_at(b, 1);
+    let tests = one_at(b, 2);
+    let operations = operations(b, c.operations);
+    let mut set = c;
+    set.parameters.count = parameters;
+    set.tests.count = tests;
+    set.operations = operations;
+    set
+}
+
+// ---- a place of the scheme's commands
+
+pub(crate) fn command_at(s: Scheme, i: usize) -> Command {
+    s.commands[i % 32]
+}
+
+// The place is the first of the bytes.
+pub(crate) fn with_command(s: Scheme, b: &[u8], c: Command) -> Scheme {
+    let mut set = s;
+    set.commands[one_at(b, 0) as usize % 32] = c;
+    set
 }
 
 pub(crate) fn commands(b: &[u8], s: Scheme) -> Scheme {
-    let head = s.head;
-    let mut commands = s.commands;
-    let i = one_at(b, 0) as usize;
-    if i < 32 {
-        let c = commands[i];
-        commands[i] = command(b, c);
-    }
-    Scheme { head, commands }
+    with_command(s, b, command(b, command_at(s, one_at(b, 0) as usize)))
 }
 
 // ---- a matrix
-
-// A seat's id and type.
-pub(crate) fn things(b: &[u8], th: Things) -> Things {
-    let mut ids = th.ids;
-    let mut types = th.types;
-    let i = one_at(b, 0) as usize;
-    if i < 48 {
-        ids[i] = two_at(b, 1);
-        types[i] = ThingType(one_at(b, 3));
-    }
-    Things { ids, types }
-}
 
 pub(crate) fn cell(b: &[u8], th: Things, cells: &mut [u64]) -> Things {
     let k = two_at(b, 0) as usize;

@@ -1,44 +1,59 @@
--- What each turn of a loop over tests, operations or a seat's cells does, and what is left at the end. Over plain lists and numbers, so that a
--- function's proof names few places of its context. Assumes nothing.
+-- What a test, and each turn of a loop over tests, operations or a seat's cells does. Over plain lists and numbers, so that a function's proof names
+-- few places of its context. Assumes nothing.
 use Prim.Native.Nat.{ℕ, zero, suc, _+_, _*_, _/_, _%_, _≤_, _<_}
 use mathlib.Core.Path.{_≡_, refl, sym, ap, _∙_}
 use mathlib.Core.Logic.{_≢_, _⊎_, inl, inr, ⊎-elim}
-use mathlib.Core.Bool.{Bool, true, false, cond, _&&_, _||_, or-true}
+use mathlib.Core.Bool.{Bool, true, false, not, cond, _||_, or-true}
 use mathlib.Core.List.{List, [], _∷_}
 use native.Mathlib.Nat.{add-zero, add-suc, suc-add, zero-add}
+use native.Mathlib.Numerals.{add-one}
 use native.Mathlib.Omega.{arith}
 use lib.Dec.{eqb}
-use lib.ListN.{length, getD, set, take, drop}
+use lib.ListN.{length, getD, set}
 use borrow.Author.Tests.{eqb-true, eq-eqb}
-use Rattle.model.specs.Check.{all}
+use Rattle.rights.specs.Sets.{has}
+use Rattle.laws.specs.Check.{_orElse_, must}
+use Rattle.model.specs.Answers.{verdictOf}
+use Rattle.model.specs.Request.{at}
 use Rattle.model.specs.Seats.{blank}
 use Rattle.model.specs.declared.Operation.{Operation}
-use Rattle.accepted.proofs.Walks.{turn-used, ended-used}
-use Rattle.engine.specs.Plan.{cellsBy, cellsAfter}
+use Rattle.model.specs.declared.Test.{Test}
+use Rattle.model.specs.declared.Verdict.{Verdict}
+use Rattle.model.specs.declared.Verdict.the-variants.{Refused}
+use Rattle.engine.specs.Inner.Cells.{placeAt, holdsAt, firstFalse, cellsBy, cellsAfter}
 
-module _ {A : Type 0} (l : List A) (n : ℕ) (fits : n ≤ length l) (i : ℕ) where
-  -- ---- the tests
+-- ---- the tests
 
-  pub all-turn :
-      (f : A → Bool) → i < n → (d : A) (b : Bool) → f (getD l i d) ≡ b → all f (drop i (take n l)) ≡ (b && all f (drop (i + 1) (take n l)))
-  unfolding all
-  all-turn f h d b e = rw (turn-used l n fits i d h, e)
+-- a test that reads its cell
+module _ (cells spots : List ℕ) (t : Test) (k : ℕ) (place : k ≡ placeAt spots (t .row) (t .column)) (s : ℕ) (cell : s ≡ getD cells k 0)
+    (there : Bool) (is : there ≡ has s (t .right .0)) where
+  pub holds-present : t .present ≡ true → there ≡ holdsAt cells spots t
+  unfolding holdsAt
+  holds-present e = rw (e, is, cell, place)
 
-  pub all-end : (f : A → Bool) → n ≤ i → all f (drop i (take n l)) ≡ true
-  unfolding all
-  all-end f h = rw (ended-used l n fits i h)
+  pub holds-absent : t .present ≡ false → not there ≡ holdsAt cells spots t
+  unfolding holdsAt
+  holds-absent e = rw (e, is, cell, place)
 
--- ---- the operations
+-- what is left of the tests decides the verdict
+module _ (cells spots : List ℕ) where
+  abbrev pub testedFrom : ℕ → List Test → Verdict
+  testedFrom i ts = verdictOf (firstFalse cells spots i ts)
 
-module _ (at : List ℕ) (l : List Operation) (n : ℕ) (fits : n ≤ length l) (i : ℕ) (cells : List ℕ) where
-  pub after-turn : (next : List ℕ) → i < n → (d : Operation) → next ≡ cellsBy at (getD l i d) cells (getD l i d .code) →
-      cellsAfter at (drop i (take n l)) cells ≡ cellsAfter at (drop (i + 1) (take n l)) next
-  unfolding cellsAfter
-  after-turn next h d e = rw (turn-used l n fits i d h, e)
+  module _ (i : ℕ) (t : Test) where
+    pub tests-on : holdsAt cells spots t ≡ true → (ts : List Test) → testedFrom (i + 1) ts ≡ testedFrom i (t ∷ ts)
+    unfolding firstFalse must _orElse_
+    tests-on e ts = rw (e, add-one i)
 
-  pub after-end : n ≤ i → cellsAfter at (drop i (take n l)) cells ≡ cells
-  unfolding cellsAfter
-  after-end h = rw (ended-used l n fits i h)
+    pub tests-out : holdsAt cells spots t ≡ false → (ts : List Test) → Refused (at 14 i) ≡ testedFrom i (t ∷ ts)
+    unfolding firstFalse must _orElse_
+    tests-out e ts = rw e
+
+-- ---- the operations: what is left of them, on the cells so far, gives what all of them give on the first
+pub after-on : (spots : List ℕ) (o : Operation) (cells next : List ℕ) → next ≡ cellsBy spots o cells (o .code) → (os : List Operation) →
+    cellsAfter spots os next ≡ cellsAfter spots (o ∷ os) cells
+unfolding cellsAfter
+after-on spots o cells next e os = rw e
 
 -- ---- a seat's cells: a store of 0 in its row or column changes nothing of what `blank` gives, and where all of them are 0 `blank` is done
 
@@ -89,10 +104,10 @@ zeroed (c ∷ cs) (suc k) zero f = f (λ e. omega arith)
 zeroed (c ∷ cs) (suc k) (suc m) f = zeroed cs k m (λ n. f (λ e. n (omega arith)))
 
 pub clear-turn : (p j : ℕ) (l : List ℕ) → Clear p j l → Clear p (j + 1) (cleared p j l)
-clear-turn p j l f i h = (at (p * 48 + i) (λ n m. f i (omega arith) .0), at (i * 48 + p) (λ n m. f i (omega arith) .1))
+clear-turn p j l f i h = (zero-at (p * 48 + i) (λ n m. f i (omega arith) .0), zero-at (i * 48 + p) (λ n m. f i (omega arith) .1))
   where
-    at : (m : ℕ) → (m ≢ p * 48 + j → m ≢ j * 48 + p → getD l m 0 ≡ 0) → getD (cleared p j l) m 0 ≡ 0
-    at m g = zeroed (set l (p * 48 + j) 0) (j * 48 + p) m (λ c. zeroed l (p * 48 + j) m (λ r. g r c))
+    zero-at : (m : ℕ) → (m ≢ p * 48 + j → m ≢ j * 48 + p → getD l m 0 ≡ 0) → getD (cleared p j l) m 0 ≡ 0
+    zero-at m g = zeroed (set l (p * 48 + j) 0) (j * 48 + p) m (λ c. zeroed l (p * 48 + j) m (λ r. g r c))
 
 pub blank-turn : (p j : ℕ) (l : List ℕ) → p < 48 → j < 48 → blank p 0 (cleared p j l) ≡ blank p 0 l
 blank-turn p j l lp lj =

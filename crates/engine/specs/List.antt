@@ -1,94 +1,68 @@
--- A list of requests as bytes: what it says, and what carrying it out gives.
+-- What carrying out a list of requests gives.
 -- Assumes nothing.
-use Prim.Native.Nat.{ℕ, zero, suc}
+use Prim.Native.Nat.{ℕ, _*_}
 use mathlib.Core.Bool.{cond, _&&_}
 use mathlib.Core.List.{List, [], _∷_}
 use lib.Dec.{leb}
 use lib.ListN.{length}
-use lib.Seq.{sets}
-use Rattle.model.specs.Request.{Request, run, answers}
+use Rattle.model.specs.Answers.{replyTo, replyWidth, replyBytes}
+use Rattle.model.specs.Request.{Request, Answer, run, answers}
 use Rattle.model.specs.Seats.{Matrix, seats}
 use Rattle.model.specs.Accepted.{acceptedScheme, acceptedMatrix}
 use Rattle.model.specs.declared.Scheme.{Scheme}
+use Rattle.records.specs.Bytes.{eachBytes}
+use Rattle.records.specs.Told.{Told, told}
 use Rattle.records.specs.Writing.{placed}
 use Rattle.records.specs.declared.Reading.{Reading}
 use Rattle.records.specs.declared.Reading.the-variants as reading
-use Rattle.request_bytes.specs.Read.{idsOf, readRequest}
-use Rattle.request_bytes.specs.declared.RequestReading.{RequestReading}
-use Rattle.request_bytes.specs.declared.RequestReading.the-variants as request-reading
-use Rattle.request_bytes.specs.declared.Request.{Request as Read}
+use Rattle.request_list.specs.List.{readList}
 use Rattle.engine.specs.declared.answers.RunAnswer.{RunAnswer}
 use Rattle.engine.specs.declared.answers.RunAnswer.the-variants.{Whole, Bad, Refused}
 use Rattle.engine.specs.declared.answers.Ran.{Ran}
 
--- the requests up to the list's end or to the first record that can't be read, and which of the two it was
-pub record Listed : Type 0 where
-  pub requests : List Request
-  pub ending : Reading
-
-abbrev pub asked : Read → Request
-asked q = record { command = q .command; ids = idsOf q }
-
-abbrev pub onAnswer : ℕ → Read → (ℕ → Listed) → RequestReading → Listed
-onAnswer at q rest (request-reading.Done next) = record { requests = asked q ∷ rest next .requests; ending = rest next .ending }
-onAnswer at q rest request-reading.End = record { requests = []; ending = reading.Done at }
-onAnswer at q rest (request-reading.Refused k p) = record { requests = []; ending = reading.Refused k p }
-
--- no list holds more requests than bytes
-unfoldable pub listFrom : ℕ → List ℕ → ℕ → Listed
-listFrom zero bytes at = record { requests = []; ending = reading.Done at }
-listFrom (suc fuel) bytes at = onAnswer at (readRequest bytes at .request) (listFrom fuel bytes) (readRequest bytes at .answer)
-
-unfoldable pub listOf : List ℕ → Listed
-listOf bytes = listFrom (length bytes) bytes 0
-
+-- how a list of so many requests ended, by its reading
 abbrev pub runAnswer : ℕ → Reading → RunAnswer
 runAnswer count (reading.Done next) = Whole count
 runAnswer count (reading.Refused k at) = Bad count k at
 
--- the same by the reading that ended the list; it gave no further request
-abbrev pub endedBy : ℕ → RequestReading → RunAnswer
-endedBy count (request-reading.Done next) = Whole count
-endedBy count request-reading.End = Whole count
-endedBy count (request-reading.Refused k at) = Bad count k at
+-- what that tells: the number of requests; or the number of the record that can't be read, with the requests before it and its position; or the number
+-- of what refused the list as a whole
+abbrev pub ofRun : RunAnswer → Told
+ofRun (Whole count) = told 0 (count ∷ [])
+ofRun (Bad count k at) = told k (count ∷ at ∷ [])
+ofRun (Refused k) = told k []
 
--- what is given: the answer with the things, the cells, and the answers' buffer
+-- the bytes of the replies to all of them, one behind the other
+abbrev pub repliesTo : Scheme → Matrix → List Request → List ℕ
+repliesTo s m qs = eachBytes (λ (a : Answer). replyBytes (replyTo a)) (answers seats s m qs)
+
+-- what is given: the answer with the things, the cells, and the buffer for the replies
 pub record Result : Type 0 where
   pub ran : Ran
   pub cells : List ℕ
-  pub numbers : List ℕ
+  pub replies : List ℕ
 
 abbrev pub refusedRun : Matrix → List ℕ → ℕ → Result
-refusedRun m out k = record { ran = record { answer = Refused k; things = m .things }; cells = m .cells; numbers = out }
+refusedRun m out k = record { ran = record { answer = Refused k; things = m .things }; cells = m .cells; replies = out }
 
--- 27 once, then 9 where the answers don't fit, before anything is carried out; then each request in turn
+-- 27 once, then 9 where the replies don't fit, before anything is carried out; then each request in turn
 unfoldable pub runOn : Scheme → Matrix → List ℕ → List ℕ → Result
 runOn s m bytes out =
-    let l = listOf bytes in
+    let l = readList bytes in
     cond (acceptedScheme s && acceptedMatrix (s .head) m)
-    (cond (leb (length (l .requests)) (length out))
+    (cond (leb (replyWidth * length (l .requests)) (length out))
     (record {
       ran = record { answer = runAnswer (length (l .requests)) (l .ending); things = run seats s m (l .requests) .things };
       cells = run seats s m (l .requests) .cells;
-      numbers = placed out 0 (answers seats s m (l .requests));
+      replies = placed out 0 (repliesTo s m (l .requests));
     })
     (refusedRun m out 9))
     (refusedRun m out 27)
 
--- each request in turn, on an accepted scheme and matrix: `sets` stores answers as far as the buffer has room
-unfoldable pub ranOn : Scheme → Matrix → List ℕ → List ℕ → Result
-ranOn s m bytes out =
-    let rs = listOf bytes .requests in
-    record {
-      ran = record { answer = runAnswer (length rs) (listOf bytes .ending); things = run seats s m rs .things };
-      cells = run seats s m rs .cells;
-      numbers = sets out 0 (answers seats s m rs);
-    }
-
 -- a list whose answers nobody asks for: 27 once, then each request in turn; the answer with the things, and the cells
 unfoldable pub runQuietly : Scheme → Matrix → List ℕ → Ran × List ℕ
 runQuietly s m bytes =
-    let l = listOf bytes in
+    let l = readList bytes in
     cond (acceptedScheme s && acceptedMatrix (s .head) m) (
       record { answer = runAnswer (length (l .requests)) (l .ending); things = run seats s m (l .requests) .things },
       run seats s m (l .requests) .cells,

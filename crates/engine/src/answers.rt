@@ -1,28 +1,21 @@
-// What a request is answered.
+// What a request and a list of requests are answered.
+use model::Reply;
 use model::Things;
+use model::Verdict;
+ghost use mathlib.Core.Path.{_≡_};
+ghost use Rattle.engine.specs.List.{ofRun};
 
-pub enum Answer {
-    Done,
-    Refused(u8),
-}
-
-// The answer, and the things afterwards.
+// The answer, and the things afterwards. Here and below the things come first: a struct lies in memory as it is declared, and behind an odd number of
+// bytes each copy of them would be a slow one.
 pub struct Stepped {
-    pub answer: Answer,
     pub things: Things,
+    pub answer: Reply,
 }
 
-// The seats of the parameters, or the first fault of their ids.
-pub struct Located {
-    pub answer: Answer,
-    pub at: [u8; 8],
-}
-
-// The things as the creates and destroys leave them and where the created ones sit, or the first fault.
-pub struct Planning {
-    pub answer: Answer,
+// The same with all that is known of a refusal.
+pub struct Carried {
     pub things: Things,
-    pub at: [u8; 8],
+    pub answer: Verdict,
 }
 
 // How a list of requests ended: with its end, or with a record that can't be read, after so many requests; or it was refused as a whole.
@@ -33,6 +26,23 @@ pub enum RunAnswer {
 }
 
 pub struct Ran {
-    pub answer: RunAnswer,
     pub things: Things,
+    pub answer: RunAnswer,
+}
+
+impl RunAnswer {
+    // The outline's number: 0 is success.
+    pub fn number(self) -> u8
+        ensures { λ r. ⌜ r ≡ ofRun self .number ⌝ }
+    {
+        match self {
+            RunAnswer::Whole { count: _ } => 0,
+            RunAnswer::Bad {
+                count: _,
+                number,
+                at: _,
+            } => number,
+            RunAnswer::Refused(x) => x,
+        }
+    }
 }

@@ -2,11 +2,9 @@
 mod answers;
 mod cells;
 mod list;
-mod locate;
-mod plan;
+mod replies;
 mod step;
 
-pub use answers::Answer;
 pub use answers::Ran;
 pub use answers::RunAnswer;
 pub use answers::Stepped;

@@ -1,49 +1,26 @@
 // A list of requests as bytes, carried out one by one on a lent matrix.
-use crate::answers::Answer;
 use crate::answers::Ran;
 use crate::answers::RunAnswer;
+use crate::replies::put_reply;
+use crate::replies::refused;
+use crate::replies::reply;
+use crate::step::all_accepted;
 use crate::step::carry_out;
-use accepted::matrix_accepted;
-use accepted::scheme_accepted;
+use model::Reply;
 use model::Scheme;
 use model::Things;
 use request_bytes::RequestReading;
+use request_list::count_requests;
 ghost use mathlib.Core.Path.{_≡_};
 ghost use mathlib.Core.List.{List};
 ghost use Prim.Native.Nat.{ℕ};
 ghost use lib.Dec.{T};
-ghost use lib.ListN.{length};
+ghost use Rattle.model.specs.Seats.{matrixOf};
 ghost use Rattle.model.specs.Accepted.{acceptedScheme, acceptedMatrix};
-ghost use Rattle.engine.specs.Step.{numberOf};
-ghost use Rattle.engine.specs.List.{listOf, endedBy, ranOn, runOn, runQuietly};
+ghost use Rattle.engine.specs.Inner.Run.{endedBy, ranOn};
+ghost use Rattle.engine.specs.List.{runOn, runQuietly};
 
-// How many requests a list has, up to its end or to the first record that can't be read.
-fn count_requests(bytes: &[u8]) -> usize
-    ensures { λ r. ⌜ r ≡ length (listOf (now (bytes .entry)) .requests) ⌝ }
-{
-    let mut n: usize = 0;
-    let mut p: usize = 0;
-    while p < bytes.len() {
-        let answer = request_bytes::skip_request(bytes, p);
-        let RequestReading::Done { next } = answer else {
-            return n;
-        };
-        n += 1;
-        p = next;
-    }
-    n
-}
-
-fn number_of(a: Answer) -> u8
-    ensures { λ r. ⌜ r ≡ numberOf a ⌝ }
-{
-    match a {
-        Answer::Done => 0,
-        Answer::Refused(x) => x,
-    }
-}
-
-fn refused(x: u8, th: Things) -> Ran
+fn refuse_list(x: u8, th: Things) -> Ran
     ensures { λ r. ⌜ r ≡ record { answer = RunAnswer.Refused x; things = th } ⌝ }
 {
     Ran {
@@ -67,11 +44,11 @@ fn ended(count: usize, answer: RequestReading, th: Things) -> Ran
     }
 }
 
-// All requests of a list, on an accepted scheme and matrix; an answer that the buffer has no room for isn't stored. The command is taken from the
+// All requests of a list, on an accepted scheme and matrix; a reply that the buffer has no room for isn't stored. The command is taken from the
 // scheme here, and no function in between takes either by value: each would copy it.
 fn run_all(s: Scheme, th: Things, cells: &mut [u64], bytes: &[u8], out: &mut [u8]) -> Ran
-    requires { ⌜ T (acceptedScheme s) × T (acceptedMatrix (s .head) (record { things = th; cells = now cells })) ⌝ }
-    ensures { λ r. ⌜ record { ran = r; cells = now (cells .exit); numbers = now (out .exit) } ≡ ranOn s (record { things = th; cells = now (cells .entry) }) (now (bytes .entry)) (now (out .entry)) ⌝ }
+    requires { ⌜ T (acceptedScheme s) × T (acceptedMatrix (s .head) (matrixOf th (now cells))) ⌝ }
+    ensures { λ r. ⌜ record { ran = r; cells = now (cells .exit); replies = now (out .exit) } ≡ ranOn s (matrixOf th (now (cells .entry))) (now (bytes .entry)) (now (out .entry)) ⌝ }
 {
     let h = s.head;
     let mut things = th;
@@ -84,21 +61,17 @@ fn run_all(s: Scheme, th: Things, cells: &mut [u64], bytes: &[u8], out: &mut [u8
         let RequestReading::Done { next } = answer else {
             return ended(n, answer, things);
         };
-        let mut number: u8 = 10;
+        let mut verdict = refused(10);
         if q.command < h.count {
             let i = q.command as usize;
             let k = q.count as usize;
             let ids = q.ids;
             let c = s.commands[i];
-            let stepped = carry_out(c, things, cells, &ids[..k]);
-            let result = stepped.answer;
-            let new = stepped.things;
-            number = number_of(result);
-            things = new;
+            let carried = carry_out(c, things, cells, &ids[..k]);
+            verdict = carried.answer;
+            things = carried.things;
         }
-        if n < out.len() {
-            out[n] = number;
-        }
+        put_reply(out, n, reply(verdict));
         n += 1;
         p = next; // whatever was answered
     }
@@ -108,33 +81,25 @@ fn run_all(s: Scheme, th: Things, cells: &mut [u64], bytes: &[u8], out: &mut [u8
     }
 }
 
-// A list of requests: 27 once, then 9 where the answers don't fit, before anything is carried out; then each request in turn.
+// A list of requests: 27 once, then 9 where the replies don't fit, before anything is carried out; then each request in turn.
 pub fn run_list(s: Scheme, th: Things, cells: &mut [u64], bytes: &[u8], out: &mut [u8]) -> Ran
-    ensures { λ r. ⌜ record { ran = r; cells = now (cells .exit); numbers = now (out .exit) } ≡ runOn s (record { things = th; cells = now (cells .entry) }) (now (bytes .entry)) (now (out .entry)) ⌝ }
+    ensures { λ r. ⌜ record { ran = r; cells = now (cells .exit); replies = now (out .exit) } ≡ runOn s (matrixOf th (now (cells .entry))) (now (bytes .entry)) (now (out .entry)) ⌝ }
 {
-    if !scheme_accepted(s) {
-        return refused(27, th);
+    if !all_accepted(s, th, cells) {
+        return refuse_list(27, th);
     }
-    let h = s.head;
-    if !matrix_accepted(h, th, cells) {
-        return refused(27, th);
-    }
-    if out.len() < count_requests(bytes) {
-        return refused(9, th);
+    if out.len() / Reply::WIDTH < count_requests(bytes) {
+        return refuse_list(9, th);
     }
     run_all(s, th, cells, bytes, out)
 }
 
-// The same with no answer stored, and so with no 9: whoever needs to know what a list leaves before the answers are told runs it so first.
+// The same with no reply stored, and so with no 9: whoever needs to know what a list leaves before the answers are told runs it so first.
 pub fn run_quietly(s: Scheme, th: Things, cells: &mut [u64], bytes: &[u8]) -> Ran
-    ensures { λ r. ⌜ _≡_ {A = Ran × List ℕ} (r, now (cells .exit)) (runQuietly s (record { things = th; cells = now (cells .entry) }) (now (bytes .entry))) ⌝ }
+    ensures { λ r. ⌜ _≡_ {A = Ran × List ℕ} (r, now (cells .exit)) (runQuietly s (matrixOf th (now (cells .entry))) (now (bytes .entry))) ⌝ }
 {
-    if !scheme_accepted(s) {
-        return refused(27, th);
-    }
-    let h = s.head;
-    if !matrix_accepted(h, th, cells) {
-        return refused(27, th);
+    if !all_accepted(s, th, cells) {
+        return refuse_list(27, th);
     }
     let mut none = [0u8; 1];
     run_all(s, th, cells, bytes, &mut none[..0])

@@ -1,38 +1,59 @@
 // One request on a scheme, things and lent cells.
-use crate::answers::Answer;
+use crate::answers::Carried;
 use crate::answers::Stepped;
 use crate::cells::change_all;
-use crate::cells::holds_all;
-use crate::locate::locate;
-use crate::plan::plan_all;
-use accepted::matrix_accepted;
+use crate::cells::tests_fault;
+use crate::replies::refused;
+use crate::replies::reply;
 use accepted::scheme_accepted;
+use accepted_matrix::matrix_accepted;
 use model::Command;
 use model::Scheme;
 use model::Things;
+use model::Verdict;
+use plan::locate;
+use plan::plan_all;
 ghost use mathlib.Core.Path.{_≡_};
+ghost use mathlib.Core.Bool.{_&&_};
 ghost use mathlib.Core.List.{List};
+ghost use mathlib.Core.Option.{some};
 ghost use Prim.Native.Nat.{ℕ};
 ghost use lib.Dec.{T};
-ghost use Rattle.model.specs.Request.{carryOut, step};
-ghost use Rattle.model.specs.Seats.{seats};
+ghost use Rattle.model.specs.Answers.{verdictOf, replyTo};
+ghost use Rattle.model.specs.Request.{at, step};
+ghost use Rattle.model.specs.Seats.{seats, matrixOf};
 ghost use Rattle.model.specs.Accepted.{acceptedScheme, acceptedMatrix};
-ghost use Rattle.engine.specs.Step.{answered, requestOn};
-ghost use Rattle.engine.specs.Plan.{Ready};
+ghost use Rattle.engine.specs.Step.{requestOn};
+ghost use Rattle.engine.specs.Inner.Carry.{Counted, answerOf, carried, planned};
 
-pub(crate) fn refuse(x: u8, th: Things) -> Stepped
-    ensures { λ r. ⌜ r ≡ record { answer = Answer.Refused x; things = th } ⌝ }
+// A request that ends here leaves the things as they are.
+fn stop(answer: Verdict, th: Things) -> Carried
+    ensures { λ r. ⌜ r ≡ record { answer = answer; things = th } ⌝ }
 {
+    Carried { answer, things: th }
+}
+
+fn refuse(number: u8, th: Things) -> Carried
+    ensures { λ r. ⌜ r ≡ record { answer = verdictOf (some (at number 0)); things = th } ⌝ }
+{
+    stop(refused(number), th)
+}
+
+fn told(c: Carried) -> Stepped
+    ensures { λ r. ⌜ r ≡ record { answer = replyTo (answerOf (c .answer)); things = c .things } ⌝ }
+{
+    let answer = c.answer;
+    let things = c.things;
     Stepped {
-        answer: Answer::Refused(x),
-        things: th,
+        answer: reply(answer),
+        things,
     }
 }
 
 // A command with these ids: all faults first, then the cells.
-pub(crate) fn carry_out(c: Command, th: Things, cells: &mut [u64], ids: &[u16]) -> Stepped
-    requires { ⌜ Ready c (record { things = th; cells = now cells }) ⌝ }
-    ensures { λ r. ⌜ _≡_ {A = Stepped × List ℕ} (r, now (cells .exit)) (answered (record { things = th; cells = now (cells .entry) }) (carryOut seats (record { things = th; cells = now (cells .entry) }) (now (ids .entry)) c)) ⌝ }
+pub(crate) fn carry_out(c: Command, th: Things, cells: &mut [u64], ids: &[u16]) -> Carried
+    requires { ⌜ Counted c (now cells) ⌝ }
+    ensures { λ r. ⌜ _≡_ {A = Carried × List ℕ} (r, now (cells .exit)) (carried (matrixOf th (now (cells .entry))) (planned (matrixOf th (now (cells .entry))) (now (ids .entry)) c)) ⌝ }
 {
     let p = c.parameters;
     let t = c.tests;
@@ -42,31 +63,29 @@ pub(crate) fn carry_out(c: Command, th: Things, cells: &mut [u64], ids: &[u16]) 
     }
     let found = locate(th, p, o, ids);
     let place = found.answer;
-    let at = found.at;
-    if let Answer::Refused(x) = place {
-        return refuse(x, th);
-    }
-    if !holds_all(cells, at, t) {
-        return refuse(14, th);
-    }
-    let plan = plan_all(th, at, p, ids, o);
+    let Verdict::Done = place else {
+        return stop(place, th);
+    };
+    let spots = found.spots;
+    let tested = tests_fault(cells, spots, t);
+    let Verdict::Done = tested else {
+        return stop(tested, th);
+    };
+    let plan = plan_all(th, spots, p, ids, o);
     let answer = plan.answer;
+    let Verdict::Done = answer else {
+        return stop(answer, th);
+    };
     let things = plan.things;
-    let to = plan.at;
-    if let Answer::Refused(x) = answer {
-        return refuse(x, th);
-    }
+    let to = plan.spots;
     change_all(cells, to, o);
-    Stepped {
-        answer: Answer::Done,
-        things,
-    }
+    Carried { answer, things }
 }
 
 // A request of an accepted scheme and matrix.
-pub(crate) fn step_on(s: Scheme, th: Things, cells: &mut [u64], command: u8, ids: &[u16]) -> Stepped
-    requires { ⌜ T (acceptedScheme s) × T (acceptedMatrix (s .head) (record { things = th; cells = now cells })) ⌝ }
-    ensures { λ r. ⌜ _≡_ {A = Stepped × List ℕ} (r, now (cells .exit)) (answered (record { things = th; cells = now (cells .entry) }) (step seats s (record { things = th; cells = now (cells .entry) }) (record { command = command; ids = now (ids .entry) }))) ⌝ }
+fn step_on(s: Scheme, th: Things, cells: &mut [u64], command: u8, ids: &[u16]) -> Carried
+    requires { ⌜ T (acceptedScheme s) × T (acceptedMatrix (s .head) (matrixOf th (now cells))) ⌝ }
+    ensures { λ r. ⌜ _≡_ {A = Carried × List ℕ} (r, now (cells .exit)) (carried (matrixOf th (now (cells .entry))) (step seats s (matrixOf th (now (cells .entry))) (record { command = command; ids = now (ids .entry) }))) ⌝ }
 {
     let h = s.head;
     if h.count <= command {
@@ -77,16 +96,23 @@ pub(crate) fn step_on(s: Scheme, th: Things, cells: &mut [u64], command: u8, ids
     carry_out(c, th, cells, ids)
 }
 
-// One request: 27 before all other checks, then 10 to 17. Whether refused early or late, it then has no effect at all.
-pub fn request(s: Scheme, th: Things, cells: &mut [u64], command: u8, ids: &[u16]) -> Stepped
-    ensures { λ r. ⌜ _≡_ {A = Stepped × List ℕ} (r, now (cells .exit)) (requestOn s (record { things = th; cells = now (cells .entry) }) command (now (ids .entry))) ⌝ }
+// Whether both are accepted (27).
+pub(crate) fn all_accepted(s: Scheme, th: Things, cells: &[u64]) -> bool
+    ensures { λ r. ⌜ r ≡ (acceptedScheme s && acceptedMatrix (s .head) (matrixOf th (now (cells .entry)))) ⌝ }
 {
     if !scheme_accepted(s) {
-        return refuse(27, th);
+        return false;
     }
     let h = s.head;
-    if !matrix_accepted(h, th, cells) {
-        return refuse(27, th);
+    matrix_accepted(h, th, cells)
+}
+
+// One request: 27 before all other checks, then 10 to 17. Whether refused early or late, it then has no effect at all.
+pub fn request(s: Scheme, th: Things, cells: &mut [u64], command: u8, ids: &[u16]) -> Stepped
+    ensures { λ r. ⌜ _≡_ {A = Stepped × List ℕ} (r, now (cells .exit)) (requestOn s (matrixOf th (now (cells .entry))) command (now (ids .entry))) ⌝ }
+{
+    if !all_accepted(s, th, cells) {
+        return told(refuse(27, th));
     }
-    step_on(s, th, cells, command, ids)
+    told(step_on(s, th, cells, command, ids))
 }

@@ -11,53 +11,57 @@ use lib.Dec.{T, eqb, leb}
 use lib.ListN.{length, getD, List·getD-eq-default}
 use lib.Pow.{pow-pos}
 use borrow.Author.Tests.{eqb-true, eqb-false, leb-true, leb-false}
-use Rattle.model.specs.Check.{isSome}
-use Rattle.model.specs.Seats.{Matrix, noType, among, known, seat, thingAt, cell, place, standsFor}
-use Rattle.model.specs.Accepted.{standing}
+use Rattle.laws.specs.Check.{isSome}
+use Rattle.model.specs.Request.{Thing}
+use Rattle.model.specs.Seats.{Matrix, among, known, seat, thingIn, thingAt, cell, place, paperThings, standsFor}
+use Rattle.model.specs.Accepted.{standing, zeroThing, acceptedSeat}
 use Rattle.model.specs.declared.Head.{Head}
 use Rattle.model.specs.declared.Things.{Things}
-use Rattle.model.proofs.Bools.{is-true}
+use Rattle.laws.proofs.Bools.{is-true}
 use Rattle.model.proofs.Held.{Held}
-use Rattle.model.proofs.HeldLaws.{held, accepted}
-use Rattle.model.proofs.Find.{find-lt, among-get, seat-is, some-known, some-type, known-is, seat-lt}
+use Rattle.model.proofs.HeldLaws.{seat-small, seat-typed, seat-ok, held, accepted}
+use Rattle.model.proofs.Find.{find-lt, among-get, seat-is, some-known, some-thing, known-is, seat-lt}
 use Rattle.records.specs.Bytes.{littleEndian, recordBytes}
 use Rattle.records.proofs.Trip.{Bytes}
 use Rattle.records.proofs.Below.{Below, below-bytes, below-append, below-number, below-record}
-use Rattle.matrix_bytes.specs.Content.{Thing, Cell, thingsOf, cellsOf}
-use Rattle.matrix_bytes.specs.Write.{thingBytes, cellBytes, thingRecords, cellRecords, matrixBytes}
+use Rattle.matrix_records.specs.Content.{ThingRecord, CellRecord}
+use Rattle.matrix_records.specs.Write.{headBytes, thingBytes, cellBytes}
+use Rattle.matrix_records.proofs.Trips.{Sized}
+use Rattle.matrix_bytes.specs.Content.{thingsOf, cellsOf}
+use Rattle.matrix_bytes.specs.Write.{matrixBytes}
 use Rattle.matrix_bytes.specs.Promises.{Tidy, AcceptedIffRead}
 use Rattle.matrix_bytes.proofs.Rising.{Rising, things-rising, things-few}
-use Rattle.matrix_bytes.proofs.Trips.{Sized}
-use Rattle.matrix_bytes.proofs.RoundTrips.{sized, same-content, there, back}
+use Rattle.matrix_bytes.proofs.RoundTrips.{things, cells, sized, same-content, there, back}
+use Rattle.model.specs.Scheme.{noType}
 
 -- ---- the bytes of a matrix's parts
-cells-below : (cs : List Cell) → Below (cellRecords cs)
-unfolding cellRecords cellBytes
+cells-below : (cs : List CellRecord) → Below (cells cs)
+unfolding cellBytes
 cells-below [] = tt
 cells-below (c ∷ cs) =
     let ids = below-append (littleEndian 2 (c .row)) (littleEndian 2 (c .column)) (below-number 2 _) (below-number 2 _) in
-    below-append (recordBytes 5 (cellBytes c)) (cellRecords cs)
+    below-append (recordBytes 5 (cellBytes c)) (cells cs)
     (below-record 5 (cellBytes c) (below-append (littleEndian 2 (c .row) ++ littleEndian 2 (c .column)) (littleEndian 8 (c .rights)) ids (below-number 8 _)))
     (cells-below cs)
 
 module _ (h : Head) (z : Sized h) where
-  things-below : (last : ℕ) (ts : List Thing) → Rising h last ts → Below (thingRecords ts)
-  unfolding thingRecords thingBytes
+  things-below : (last : ℕ) (ts : List ThingRecord) → Rising h last ts → Below (things ts)
+  unfolding thingBytes
   things-below last [] r = tt
   things-below last (t ∷ ts) r =
-      let l : t .type .0 < 256 = omega (arith, r .0 .typed, z .types) in
-      below-append (recordBytes 4 (thingBytes t)) (thingRecords ts)
-      (below-record 4 (thingBytes t) (below-append (littleEndian 2 (t .id)) (t .type .0 ∷ []) (below-number 2 _) (l, tt)))
+      let l : t .thing .type .0 < 256 = omega (arith, r .0 .typed, z .types) in
+      below-append (recordBytes 4 (thingBytes t)) (things ts)
+      (below-record 4 (thingBytes t) (below-append (littleEndian 2 (t .id)) (t .thing .type .0 ∷ []) (below-number 2 _) (l, tt)))
       (things-below (t .id) ts (r .1))
 
   matrix-below : (m : Matrix) → Held h m → Bytes (matrixBytes h m)
-  unfolding matrixBytes
+  unfolding matrixBytes headBytes
   matrix-below m ok =
-      let front : List ℕ = h .rights ∷ length (thingsOf m) ∷ [] in
+      let front : List ℕ = headBytes (h .rights) (length (thingsOf m)) in
       let first : Below front = (omega (arith, z .rights), (omega (arith, things-few h m ok), tt)) in
       below-bytes (matrixBytes h m)
-      (below-append (recordBytes 3 front ++ thingRecords (thingsOf m)) (cellRecords (cellsOf h m))
-      (below-append (recordBytes 3 front) (thingRecords (thingsOf m)) (below-record 3 front first) (things-below 0 (thingsOf m) (things-rising h m ok)))
+      (below-append (recordBytes 3 front ++ things (thingsOf m)) (cells (cellsOf h m))
+      (below-append (recordBytes 3 front) (things (thingsOf m)) (below-record 3 front first) (things-below 0 (thingsOf m) (things-rising h m ok)))
       (cells-below (cellsOf h m)))
 
 -- ---- an accepted matrix is tidy
@@ -70,18 +74,26 @@ free-stands h th i j (inr e) = rw e (go (not (eqb (getD (th .ids) i 0) 0)) _)
     go true c = tt
     go false c = tt
 
+seat-free : (h : Head) (th : Things) (x : ℕ) (t : Thing) → T (acceptedSeat h th x t) → x ≡ 0 → T (zeroThing t)
+unfolding acceptedSeat
+seat-free h th x t k e = rw e at k
+
+free-seat : (h : Head) (th : Things) (x : ℕ) (t : Thing) → T (zeroThing t) → x ≡ 0 → T (acceptedSeat h th x t)
+unfolding acceptedSeat
+free-seat h th x t z e = rw e z
+
 held-tidy : (h : Head) (m : Matrix) → Held h m → Tidy m
 held-tidy h m ok = record {
   idRoom = ok .things .idRoom;
   typeRoom = ok .things .typeRoom;
   cellRoom = ok .cells .room;
   apart = ok .things .apart;
-  free = ok .things .free;
+  free = λ i l e. seat-free h (m .things) _ _ (ok .things .seat i l) e;
   bare = λ i j l f. ok .cells .bare i j l (free-stands h (m .things) i j f);
 }
 
 -- ---- a tidy matrix with the content of an accepted one is accepted
-thing-is : (th : Things) (x : ℕ) → T (known th x) → thingAt th x ≡ some (getD (th .types) (seat th x) noType)
+thing-is : (th : Things) (x : ℕ) → T (known th x) → thingAt th x ≡ some (thingIn th (seat th x))
 unfolding thingAt
 thing-is th x k = rw (is-true (known th x) k)
 
@@ -124,9 +136,9 @@ module _ (h : Head) (m read : Matrix) (tidy : Tidy m) (ok : Held h read) (same :
 
   -- who sits at i is a thing of the other, of the same type
   module _ (i : ℕ) (nz : getD (m .things .ids) i 0 ≢ 0) where
-    found : thingAt (read .things) (id i) ≡ some (getD (m .things .types) i noType)
-    unfolding standsFor
-    found = ap (λ p. p .typeOf (id i)) same ∙ thing-is (m .things) (id i) (who-known m tidy i nz) ∙ rw (who-seat m tidy i nz)
+    found : thingAt (read .things) (id i) ≡ some (thingIn (m .things) i)
+    unfolding standsFor paperThings
+    found = ap (λ p. p .things .thing (id i)) same ∙ thing-is (m .things) (id i) (who-known m tidy i nz) ∙ rw (who-seat m tidy i nz)
 
     found-known : T (known (read .things) (id i))
     unfolding isSome
@@ -135,14 +147,18 @@ module _ (h : Head) (m read : Matrix) (tidy : Tidy m) (ok : Held h read) (same :
     found-id : getD (read .things .ids) (there-seat i) 0 ≡ id i
     found-id = seat-is (read .things) (id i) found-known
 
-    found-type : getD (read .things .types) (there-seat i) noType ≡ getD (m .things .types) i noType
-    found-type = some-type (read .things) (id i) _ found
+    found-thing : thingIn (read .things) (there-seat i) ≡ thingIn (m .things) i
+    found-thing = some-thing (read .things) (id i) _ found
 
-    found-small : id i ≤ 65535
-    found-small = rw found-id at (ok .things .small (there-seat i))
+    found-low : there-seat i < 48
+    found-low = seat-lt h (read .things) (ok .things) (id i) found-known
 
-    found-typed : getD (m .things .types) i noType .0 < h .types
-    found-typed = rw found-type at (ok .things .typed (there-seat i) (λ e. nz (sym found-id ∙ e)))
+    found-seat : T (acceptedSeat h (m .things) (id i) (thingIn (m .things) i))
+    found-seat =
+        let t = ok .things .seat (there-seat i) found-low in
+        let small : id i ≤ 65535 = rw found-id at (seat-small h (read .things) _ _ t) in
+        let typed : thingIn (m .things) i .type .0 < h .types = rw found-thing at (seat-typed h (read .things) _ _ t (λ e. nz (sym found-id ∙ e))) in
+        seat-ok h (m .things) (id i) (thingIn (m .things) i) nz small typed
 
   -- the cell of two of them is the other's
   found-cell : (i j : ℕ) → id i ≢ 0 → id j ≢ 0 → getD (m .cells) (i * 48 + j) 0 ≡ getD (read .cells) (there-seat i * 48 + there-seat j) 0
@@ -168,8 +184,10 @@ module _ (h : Head) (m read : Matrix) (tidy : Tidy m) (ok : Held h read) (same :
       go false e = g (eqb-false (id i) 0 e)
 
   same-standing : (i j : ℕ) → id i ≢ 0 → id j ≢ 0 → standing h (read .things) (there-seat i) (there-seat j) ≡ standing h (m .things) i j
-  unfolding standing
-  same-standing i j p q = rw (found-id i p, found-id j q, found-type i p)
+  unfolding standing thingIn
+  same-standing i j p q =
+      let type : getD (read .things .types) (there-seat i) noType ≡ getD (m .things .types) i noType = ap (λ t. t .type) (found-thing i p) in
+      rw (found-id i p, found-id j q, type)
 
   tidy-held : Held h m
   tidy-held = record {
@@ -177,9 +195,7 @@ module _ (h : Head) (m read : Matrix) (tidy : Tidy m) (ok : Held h read) (same :
       idRoom = tidy .idRoom;
       typeRoom = tidy .typeRoom;
       apart = tidy .apart;
-      small = λ i. by-thing (id i ≤ 65535) i (λ e. omega arith) (found-small i);
-      typed = found-typed;
-      free = tidy .free;
+      seat = λ i l. by-thing (T (acceptedSeat h (m .things) (id i) (thingIn (m .things) i))) i (λ e. free-seat h (m .things) _ _ (tidy .free i l e) e) (found-seat i);
     };
     cells = record {
       room = tidy .cellRoom;
@@ -187,7 +203,7 @@ module _ (h : Head) (m read : Matrix) (tidy : Tidy m) (ok : Held h read) (same :
           let e : k / 48 * 48 + k % 48 ≡ k = omega arith in
           rw e at (by-cell (λ v. v < 2 ^ h .rights) (k / 48) (k % 48) (omega arith) (pow-pos (h .rights)) (λ p q. ok .cells .small _));
       bare = λ i j l n. by-cell (λ v. v ≡ 0) i j l refl (λ p q.
-          ok .cells .bare (there-seat i) (there-seat j) (seat-lt h (read .things) (ok .things) (id j) (found-known j q)) (rw (same-standing i j p q) n));
+          ok .cells .bare (there-seat i) (there-seat j) (found-low j q) (rw (same-standing i j p q) n));
     };
   }
 

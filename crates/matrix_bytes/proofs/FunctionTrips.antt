@@ -11,12 +11,11 @@ use borrow.Author.Tests.{le-leb, eq-eqb}
 use Rattle.model.specs.Seats.{Matrix}
 use Rattle.model.specs.Accepted.{acceptedScheme, acceptedMatrix}
 use Rattle.model.specs.declared.Things.{Things}
-use Rattle.model.proofs.Bools.{is-true, and-left, and-right}
+use Rattle.laws.proofs.Bools.{is-true, and-left, and-right}
 use Rattle.records.specs.Reading.{Read, got, fault}
 use Rattle.records.specs.Front.{Refusal}
 use Rattle.records.specs.Writing.{writeBytes}
 use Rattle.records.specs.declared.Reading.the-variants.{Done, Refused}
-use Rattle.records.proofs.FieldLaws.{apart}
 use Rattle.records.proofs.Wrote.{pair-eq, wrote, wrote-first}
 use Rattle.matrix_bytes.specs.Answers.{asMatrix, readMatrix}
 use Rattle.matrix_bytes.specs.FunctionTrips.{FunctionTrips}
@@ -24,6 +23,7 @@ use Rattle.matrix_bytes.specs.Read.{matrix}
 use Rattle.matrix_bytes.specs.Write.{matrixBytes, writeMatrix}
 use Rattle.matrix_bytes.specs.declared.answers.MatrixAnswer.{MatrixAnswer}
 use Rattle.matrix_bytes.proofs.RoundTrips.{round-trips}
+use Rattle.laws.proofs.Differ.{constructors-differ}
 
 -- ---- read, then written
 -- what was read was done against an accepted scheme
@@ -35,9 +35,9 @@ read-got true true (got m n) things cells next th new e =
     let a : m .things ≡ th = ap (λ (y : MatrixAnswer). y .things) p in
     let b = ap (λ (y : MatrixAnswer). y .answer) p in
     let c : n ≡ next = cc in (tt, rw (← a, ← c, ← d))
-read-got true true (fault f) things cells next th new e = let b = ap (λ (y : MatrixAnswer). y .answer) (pair-eq e .0) in apart (cc)
-read-got true false r things cells next th new e = let b = ap (λ (y : MatrixAnswer). y .answer) (pair-eq e .0) in apart (cc)
-read-got false room r things cells next th new e = let b = ap (λ (y : MatrixAnswer). y .answer) (pair-eq e .0) in apart (cc)
+read-got true true (fault f) things cells next th new e = let b = ap (λ (y : MatrixAnswer). y .answer) (pair-eq e .0) in constructors-differ (cc)
+read-got true false r things cells next th new e = let b = ap (λ (y : MatrixAnswer). y .answer) (pair-eq e .0) in constructors-differ (cc)
+read-got false room r things cells next th new e = let b = ap (λ (y : MatrixAnswer). y .answer) (pair-eq e .0) in constructors-differ (cc)
 
 -- ---- both
 pub function-trips : FunctionTrips

@@ -1,4 +1,5 @@
 -- The laws of matrices as bytes: things and cells by rising id, both round trips, and what the functions' proofs cite.
+pub mod Seating
 pub mod Rising
 pub mod Spots
 pub mod Cells
@@ -6,6 +7,7 @@ pub mod Stored
 pub mod Trips
 pub mod RoundTrips
 pub mod AcceptedTrip
-pub mod FieldReads
-pub mod ReadLaws
 pub mod FunctionTrips
+pub mod ReadThings
+pub mod ReadCells
+pub mod ReadMatrix

@@ -3,38 +3,38 @@
 use Prim.Native.Nat.{ℕ, _≤_, _<_}
 use mathlib.Core.Path.{_≡_, refl, sym, _∙_}
 use mathlib.Core.Bool.{Bool, true, false, cond, _&&_}
-use mathlib.Core.List.{List, [], _∷_, _++_, append-nil}
+use mathlib.Core.List.{List, _++_, append-nil}
 use native.Mathlib.Omega.{arith}
-use lib.Dec.{T, leb, leb→le}
+use lib.Dec.{T, leb}
 use lib.ListN.{length}
 use lib.Seq.{drop-length}
 use borrow.Author.Tests.{leb-true, leb-false}
-use Rattle.model.specs.Check.{passes}
-use Rattle.model.specs.Seats.{Matrix, known, seat, standsFor}
-use Rattle.model.specs.Accepted.{between, headFault, acceptedScheme}
+use Rattle.laws.specs.Check.{passes, between}
+use Rattle.model.specs.Seats.{Matrix, known, seat, paperThings, standsFor}
+use Rattle.model.specs.Accepted.{headFault, acceptedScheme}
 use Rattle.model.specs.declared.Head.{Head}
 use Rattle.model.specs.declared.Scheme.{Scheme}
-use Rattle.model.proofs.Bools.{is-false, and-left, and-right, must-pass, first-pass, then-pass}
+use Rattle.laws.proofs.Bools.{is-false, and-left}
 use Rattle.model.proofs.Held.{Held}
-use Rattle.model.proofs.HeldLaws.{held, accepted}
+use Rattle.model.proofs.HeldLaws.{ids-small, held, accepted}
 use Rattle.model.proofs.Find.{seat-is}
-use Rattle.model.proofs.SeatChange.{state-eq}
-use Rattle.records.specs.Bytes.{recordBytes}
+use Rattle.model.proofs.SeatChange.{things-eq, state-eq}
+use Rattle.records.specs.Bytes.{recordBytes, eachBytes}
 use Rattle.records.specs.Reading.{got, steps}
 use Rattle.records.specs.Front.{inRecord}
 use Rattle.records.proofs.Trip.{Bytes, Stand, bind-got, got-same, stand-split, stand-join}
-use Rattle.matrix_bytes.specs.Content.{Thing, Cell, thingsOf, cellsOf, matrixFrom}
-use Rattle.matrix_bytes.specs.Read.{head, thing, cell, start, toEnd, matrix}
-use Rattle.matrix_bytes.specs.Write.{thingRecords, cellRecords, matrixBytes}
+use Rattle.matrix_records.specs.Content.{ThingRecord, CellRecord}
+use Rattle.matrix_records.specs.Read.{head, thing, cell, start}
+use Rattle.matrix_records.specs.Write.{headBytes, thingBytes, cellBytes}
+use Rattle.matrix_records.proofs.Trips.{Sized, head-sized, head-record}
+use Rattle.matrix_bytes.specs.Content.{thingsOf, cellsOf, matrixFrom}
+use Rattle.matrix_bytes.specs.Read.{toEnd, matrix}
+use Rattle.matrix_bytes.specs.Write.{matrixBytes}
 use Rattle.matrix_bytes.specs.Promises.{RoundTrips}
-use Rattle.matrix_bytes.proofs.Rising.{Rising, from-type, things-rising, things-few, things-type, things-again}
+use Rattle.matrix_bytes.proofs.Rising.{Rising, from-thing, things-rising, things-few, things-with, things-again}
 use Rattle.matrix_bytes.proofs.Cells.{cells-between, cells-each, cells-at}
 use Rattle.matrix_bytes.proofs.Stored.{from-accepted, from-rights, cells-again}
-use Rattle.matrix_bytes.proofs.Trips.{Sized, stand-le, head-record, things-trip, cells-there, cells-back}
-
-pub head-sized : (h : Head) → T (passes (headFault h)) → Sized h
-unfolding headFault between
-head-sized h t = search (and-left, and-right, must-pass, first-pass, then-pass, leb→le) depth 8
+use Rattle.matrix_bytes.proofs.Trips.{stand-le, things-trip, cells-there, cells-back}
 
 pub head-passes : (s : Scheme) → T (acceptedScheme s) → T (passes (headFault (s .head)))
 unfolding acceptedScheme
@@ -49,7 +49,7 @@ unfolding standsFor
 too-high h m ok x y l = rw (is-false (known (m .things) y) unknown) (go (known (m .things) x) _)
   where
     unknown : T (known (m .things) y) → ⊥
-    unknown k = omega (arith, seat-is (m .things) y k, ok .things .small (seat (m .things) y))
+    unknown k = omega (arith, seat-is (m .things) y k, ids-small h (m .things) (ok .things) (seat (m .things) y))
 
     go : (b : Bool) (v : ℕ) → cond (b && false) v 0 ≡ 0
     go true v = refl
@@ -57,8 +57,8 @@ too-high h m ok x y l = rw (is-false (known (m .things) y) unknown) (go (known (
 
 -- ---- the things by rising id, and the cells by rising place, say the same
 pub same-content : (h : Head) (m : Matrix) → Held h m → standsFor (matrixFrom (thingsOf m) (cellsOf h m)) ≡ standsFor m
-unfolding standsFor matrixFrom
-same-content h m ok = state-eq _ _ (λ x. from-type h (thingsOf m) rise x ∙ things-type h m ok x) (λ x y. go x y (leb y 65535) refl)
+unfolding standsFor paperThings matrixFrom
+same-content h m ok = state-eq _ _ (things-eq _ _ (λ x. from-thing h (thingsOf m) rise (things-few h m ok) x ∙ things-with h m ok x)) (λ x y. go x y (leb y 65535) refl)
   where
     rise : Rising h 0 (thingsOf m)
     rise = things-rising h m ok
@@ -77,6 +77,13 @@ same-content h m ok = state-eq _ _ (λ x. from-type h (thingsOf m) rise x ∙ th
         let l : 65535 < y = leb-false y 65535 e in
         too-high h M again x y l ∙ sym (too-high h m ok x y l)
 
+-- the bytes of each
+abbrev pub things : List ThingRecord → List ℕ
+things = eachBytes (λ t. recordBytes 4 (thingBytes t))
+
+abbrev pub cells : List CellRecord → List ℕ
+cells = eachBytes (λ c. recordBytes 5 (cellBytes c))
+
 -- a whole input stands in itself
 stand-all : (s : List ℕ) → Stand s s 0 (length s)
 stand-all s = record { next = omega arith; bytes = sym (rw (drop-length s) (append-nil s)) }
@@ -87,19 +94,19 @@ module _ (h : Head) (z : Sized h) where
   unfolding matrix matrixBytes
   there m ok =
       let s : List ℕ = matrixBytes h m in
-      let first : List ℕ = recordBytes 3 (h .rights ∷ length (thingsOf m) ∷ []) in
-      let (j, p, c) = stand-split s (first ++ thingRecords (thingsOf m)) (cellRecords (cellsOf h m)) {i = 0} {k = length s} (stand-all s) in
-      let (i, a, b) = stand-split s first (thingRecords (thingsOf m)) p in
+      let first : List ℕ = recordBytes 3 (headBytes (h .rights) (length (thingsOf m))) in
+      let (j, p, c) = stand-split s (first ++ things (thingsOf m)) (cells (cellsOf h m)) {i = 0} {k = length s} (stand-all s) in
+      let (i, a, b) = stand-split s first (things (thingsOf m)) p in
       let count = head-record h z s .there (length (thingsOf m)) (things-few h m ok) 0 i a in
-      let things = things-trip h z s (length (thingsOf m)) .there (thingsOf m) (things-rising h m ok, refl) i j b in
-      let cells = cells-there h z s (thingsOf m) (cells-between h m ok) (cells-each h m ok) j c in
-      rw (count, things, cells)
+      let read = things-trip h z s (length (thingsOf m)) .there (thingsOf m) (things-rising h m ok, refl) i j b in
+      let rest = cells-there h z s (thingsOf m) (cells-between h m ok) (cells-each h m ok) j c in
+      rw (count, read, rest)
 
   -- ---- read, then written
   abbrev pub Written : List ℕ → Matrix → ℕ → Type 0
   Written s m next = Held h m × (s ≡ matrixBytes h m) × (next ≡ length s)
 
-  written : (s : List ℕ) → Bytes s → (count i j k : ℕ) (ts : List Thing) (cs : List Cell) → inRecord s 8 (λ kind. head h) 0 ≡ got count i →
+  written : (s : List ℕ) → Bytes s → (count i j k : ℕ) (ts : List ThingRecord) (cs : List CellRecord) → inRecord s 8 (λ kind. head h) 0 ≡ got count i →
       steps (λ last. inRecord s 16 (λ kind. thing h last)) (λ last t. t .id) count 0 i ≡ got ts j →
       toEnd s (λ last. inRecord s 32 (λ kind. cell h ts last)) (λ last c. c) (length s) start j ≡ got cs k → Written s (matrixFrom ts cs) k
   unfolding matrixBytes
@@ -108,13 +115,13 @@ module _ (h : Head) (z : Sized h) where
       let (b, up) = things-trip h z s count .back i j ts g e2 in
       let (c, between, each, end) = cells-back h z s ts g j k cs (stand-le b (stand-le a (omega arith))) e3 in
       let few : length ts ≤ 48 = omega arith in
-      let first : List ℕ = recordBytes 3 (h .rights ∷ count ∷ []) in
-      let all : Stand s (first ++ thingRecords ts ++ cellRecords cs) 0 k =
-      stand-join s (first ++ thingRecords ts) (cellRecords cs) (stand-join s first (thingRecords ts) a b) c in
+      let first : List ℕ = recordBytes 3 (headBytes (h .rights) count) in
+      let all : Stand s (first ++ things ts ++ cells cs) 0 k =
+      stand-join s (first ++ things ts) (cells cs) (stand-join s first (things ts) a b) c in
       let same = rw (end, drop-length, append-nil) at (all .bytes) in
-      let things = things-again h ts cs (up .0) in
-      let cells = cells-again h ts (up .0) few cs each between in
-      (from-accepted h ts (up .0) few cs each, same ∙ rw (things, cells, up .1), end)
+      let same-things = things-again h ts (up .0) few cs in
+      let same-cells = cells-again h ts (up .0) few cs each between in
+      (from-accepted h ts (up .0) few cs each, same ∙ rw (same-things, same-cells, up .1), end)
 
   pub back : (s : List ℕ) (m : Matrix) (next : ℕ) → Bytes s → matrix h s 0 ≡ got m next → Written s m next
   unfolding matrix

@@ -9,87 +9,87 @@ use native.Mathlib.Nat.{le-trans, lt-of-le-of-lt}
 use native.Mathlib.Omega.{arith}
 use lib.Dec.{eqb, ltb}
 use borrow.Author.Tests.{ltb-true, ltb-false, eqb-true, eqb-false, eq-eqb}
-use Rattle.model.proofs.Bools.{eqb-not}
-use Rattle.matrix_bytes.specs.Content.{Cell}
+use Rattle.laws.proofs.Bools.{eqb-not}
+use Rattle.matrix_records.specs.Content.{CellRecord}
 
 abbrev pub spot : ℕ → ℕ → ℕ
 spot x y = x * 65536 + y
 
-abbrev pub spotOf : Cell → ℕ
+abbrev pub spotOf : CellRecord → ℕ
 spotOf c = spot (c .row) (c .column)
 
 -- their spots rise from above k up to b
-pub data Between : ℕ → List Cell → ℕ → Type 0 where
+pub data Between : ℕ → List CellRecord → ℕ → Type 0 where
   stop : {k b : ℕ} → k ≤ b → Between k [] b
-  on : {k b : ℕ} {c : Cell} {cs : List Cell} → k < spotOf c → Between (spotOf c) cs b → Between k (c ∷ cs) b
+  on : {k b : ℕ} {c : CellRecord} {cs : List CellRecord} → k < spotOf c → Between (spotOf c) cs b → Between k (c ∷ cs) b
 
-pub data Each (P : Cell → Type 0) : List Cell → Type 0 where
-  no : Each P []
-  also : {c : Cell} {cs : List Cell} → P c → Each P cs → Each P (c ∷ cs)
+pub data EachCell (P : CellRecord → Type 0) : List CellRecord → Type 0 where
+  no : EachCell P []
+  also : {c : CellRecord} {cs : List CellRecord} → P c → EachCell P cs → EachCell P (c ∷ cs)
 
 -- the rights listed for a spot, or d
-unfoldable pub rightsOr : ℕ → List Cell → ℕ → ℕ
+unfoldable pub rightsOr : ℕ → List CellRecord → ℕ → ℕ
 rightsOr d [] k = d
 rightsOr d (c ∷ cs) k = cond (eqb (spotOf c) k) (c .rights) (rightsOr d cs k)
 
 -- ---- one list behind the other
 
-pub between-lower : {j k b : ℕ} {cs : List Cell} → j ≤ k → Between k cs b → Between j cs b
+pub between-lower : {j k b : ℕ} {cs : List CellRecord} → j ≤ k → Between k cs b → Between j cs b
 between-lower l (stop e) = stop (le-trans l e)
 between-lower l (on o w) = on (lt-of-le-of-lt l o) w
 
-pub between-append : {k b e : ℕ} {cs ds : List Cell} → Between k cs b → Between b ds e → Between k (cs ++ ds) e
+pub between-append : {k b e : ℕ} {cs ds : List CellRecord} → Between k cs b → Between b ds e → Between k (cs ++ ds) e
 between-append (stop l) w = between-lower l w
 between-append (on o v) w = on o (between-append v w)
 
-module _ {P : Cell → Type 0} where
-  pub each-append : {cs ds : List Cell} → Each P cs → Each P ds → Each P (cs ++ ds)
+module _ {P : CellRecord → Type 0} where
+  pub each-append : {cs ds : List CellRecord} → EachCell P cs → EachCell P ds → EachCell P (cs ++ ds)
   each-append no w = w
   each-append (also p v) w = also p (each-append v w)
 
-  pub each-map : {Q : Cell → Type 0} → ((c : Cell) → P c → Q c) → {cs : List Cell} → Each P cs → Each Q cs
+  pub each-map : {Q : CellRecord → Type 0} → ((c : CellRecord) → P c → Q c) → {cs : List CellRecord} → EachCell P cs → EachCell Q cs
   each-map f no = no
   each-map f (also {c = c} p v) = also (f c p) (each-map f v)
 
-pub or-append : (d : ℕ) (cs ds : List Cell) (k : ℕ) → rightsOr d (cs ++ ds) k ≡ rightsOr (rightsOr d ds k) cs k
+pub or-append : (d : ℕ) (cs ds : List CellRecord) (k : ℕ) → rightsOr d (cs ++ ds) k ≡ rightsOr (rightsOr d ds k) cs k
 unfolding rightsOr
 or-append d [] ds k = refl
 or-append d (c ∷ cs) ds k = rw (or-append d cs ds k)
 
 -- ---- what is listed
 
-pub or-head : (d : ℕ) (c : Cell) (cs : List Cell) (j : ℕ) → spotOf c ≡ j → rightsOr d (c ∷ cs) j ≡ c .rights
+pub or-head : (d : ℕ) (c : CellRecord) (cs : List CellRecord) (j : ℕ) → spotOf c ≡ j → rightsOr d (c ∷ cs) j ≡ c .rights
 unfolding rightsOr
 or-head d c cs j e = rw (eq-eqb (spotOf c) j e)
 
-pub or-tail : (d : ℕ) (c : Cell) (cs : List Cell) (j : ℕ) → spotOf c ≢ j → rightsOr d (c ∷ cs) j ≡ rightsOr d cs j
+pub or-tail : (d : ℕ) (c : CellRecord) (cs : List CellRecord) (j : ℕ) → spotOf c ≢ j → rightsOr d (c ∷ cs) j ≡ rightsOr d cs j
 unfolding rightsOr
 or-tail d c cs j n = rw (eqb-not (spotOf c) j n)
 
-pub or-below : (d : ℕ) {k b : ℕ} {cs : List Cell} → Between k cs b → (j : ℕ) → j ≤ k → rightsOr d cs j ≡ d
+pub or-below : (d : ℕ) {k b : ℕ} {cs : List CellRecord} → Between k cs b → (j : ℕ) → j ≤ k → rightsOr d cs j ≡ d
 unfolding rightsOr
 or-below d (stop e) j l = refl
 or-below d (on {c = c} {cs = cs} o w) j l = rw (eqb-not (spotOf c) j (λ e. omega arith)) (or-below d w j (omega arith))
 
-pub or-unlisted : (d : ℕ) {P : Cell → Type 0} {cs : List Cell} → Each P cs → (j : ℕ) → ((c : Cell) → P c → spotOf c ≢ j) → rightsOr d cs j ≡ d
+pub or-unlisted : (d : ℕ) {P : CellRecord → Type 0} {cs : List CellRecord} → EachCell P cs → (j : ℕ) → ((c : CellRecord) → P c → spotOf c ≢ j) → rightsOr d cs j ≡ d
 unfolding rightsOr
 or-unlisted d no j f = refl
 or-unlisted d (also {c = c} p q) j f = rw (eqb-not (spotOf c) j (f c p)) (or-unlisted d q j f)
 
 -- ---- two lists that say the same
 
-pub record Full (c : Cell) : Type 0 where
+pub record Full (c : CellRecord) : Type 0 where
   pub low : c .column ≤ 65535
   pub some : c .rights ≢ 0
 
-same-cell : (c d : Cell) → Full c → Full d → spotOf c ≡ spotOf d → c .rights ≡ d .rights → c ≡ d
+same-cell : (c d : CellRecord) → Full c → Full d → spotOf c ≡ spotOf d → c .rights ≡ d .rights → c ≡ d
 same-cell c d u v e f =
     let er : c .row ≡ d .row = omega (arith, u .low, v .low) in
     let ec : c .column ≡ d .column = omega (arith, u .low, v .low) in
     λ i. record { row = er i; column = ec i; rights = f i }
 
 -- neither list begins before the other
-least : {b : ℕ} (c d : Cell) (cs ds : List Cell) → Full c → Between (spotOf d) ds b → ((j : ℕ) → rightsOr 0 (c ∷ cs) j ≡ rightsOr 0 (d ∷ ds) j) →
+least : {b : ℕ} (c d : CellRecord) (cs ds : List CellRecord) → Full c → Between (spotOf d) ds b → ((j : ℕ) → rightsOr 0 (c ∷ cs) j ≡ rightsOr 0 (d ∷ ds) j) →
     spotOf d ≤ spotOf c
 least {b} c d cs ds f w h = go (ltb (spotOf c) (spotOf d)) refl
   where
@@ -99,7 +99,7 @@ least {b} c d cs ds f w h = go (ltb (spotOf c) (spotOf d)) refl
         absurd (f .some (sym (or-head 0 c cs _ refl) ∙ h (spotOf c) ∙ or-below 0 under (spotOf c) (omega arith)))
     go false e = ltb-false (spotOf c) (spotOf d) e
 
-rest : {a b : ℕ} (c d : Cell) (cs ds : List Cell) → spotOf c ≡ spotOf d → Between (spotOf c) cs a → Between (spotOf d) ds b →
+rest : {a b : ℕ} (c d : CellRecord) (cs ds : List CellRecord) → spotOf c ≡ spotOf d → Between (spotOf c) cs a → Between (spotOf d) ds b →
     ((j : ℕ) → rightsOr 0 (c ∷ cs) j ≡ rightsOr 0 (d ∷ ds) j) → (j : ℕ) → rightsOr 0 cs j ≡ rightsOr 0 ds j
 rest c d cs ds same v w h j = go (eqb (spotOf c) j) refl
   where
@@ -111,7 +111,7 @@ rest c d cs ds same v w h j = go (eqb (spotOf c) j) refl
         let n : spotOf c ≢ j = eqb-false (spotOf c) j e in
         sym (or-tail 0 c cs j n) ∙ h j ∙ or-tail 0 d ds j (λ z. n (same ∙ z))
 
-pub same-cells : {k a b : ℕ} {cs ds : List Cell} → Between k cs a → Between k ds b → Each Full cs → Each Full ds →
+pub same-cells : {k a b : ℕ} {cs ds : List CellRecord} → Between k cs a → Between k ds b → EachCell Full cs → EachCell Full ds →
     ((j : ℕ) → rightsOr 0 cs j ≡ rightsOr 0 ds j) → cs ≡ ds
 unfolding rightsOr
 same-cells (stop l) (stop m) p q h = refl

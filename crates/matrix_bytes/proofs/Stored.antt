@@ -10,32 +10,36 @@ use lib.ListN.{length, getD, set, replicate, length-set, length-replicate}
 use lib.Pow.{pow-pos}
 use lib.Seq.{getD-set-same, getD-set-other}
 use borrow.Author.Tests.{eqb-true, eqb-false}
-use Rattle.model.specs.Scheme.{isSubject}
-use Rattle.model.specs.Seats.{Matrix, noType, known, seat, place, cell, standsFor}
+use Rattle.laws.specs.Check.{isSome}
+use Rattle.model.specs.Scheme.{isSubject, noType}
+use Rattle.model.specs.Seats.{Matrix, known, seat, place, cell, standsFor}
 use Rattle.model.specs.Accepted.{standing}
 use Rattle.model.specs.declared.Head.{Head}
 use Rattle.model.specs.declared.Things.{Things}
-use Rattle.model.proofs.Bools.{from-true, and-left, and-right, and-both, not-both, eqb-not}
+use Rattle.laws.proofs.Bools.{from-true, and-left, and-right, and-both, not-both, eqb-not}
 use Rattle.model.proofs.Held.{HeldThings, Held}
+use Rattle.model.proofs.HeldLaws.{ids-small}
 use Rattle.model.proofs.Find.{known-nonzero, seat-is, seat-lt}
 use Rattle.model.proofs.SeatChange.{stored}
-use Rattle.matrix_bytes.specs.Content.{Thing, Cell, thingsFrom, store, storeAll, matrixFrom, cellsOf}
-use Rattle.matrix_bytes.specs.Read.{typeIn, isThing}
-use Rattle.matrix_bytes.proofs.Rising.{Rising, from-held, from-type}
-use Rattle.matrix_bytes.proofs.Spots.{spot, spotOf, Between, Each, rightsOr, each-map, or-below, or-unlisted, Full, same-cells}
+use Rattle.matrix_records.specs.Content.{ThingRecord, CellRecord}
+use Rattle.matrix_records.specs.Read.{thingWith}
+use Rattle.matrix_records.proofs.Trips.{CellOk}
+use Rattle.matrix_bytes.specs.Content.{thingsFrom, store, storeAll, matrixFrom, cellsOf}
+use Rattle.matrix_bytes.proofs.Rising.{Rising, from-held, from-thing}
+use Rattle.matrix_bytes.proofs.Spots.{spot, spotOf, Between, EachCell, rightsOr, each-map, or-below, or-unlisted, Full, same-cells}
 use Rattle.matrix_bytes.proofs.Spots.Between.{stop, on}
-use Rattle.matrix_bytes.proofs.Spots.Each.{no, also}
-use Rattle.matrix_bytes.proofs.Cells.{CellOk, is-thing, is-row, cells-between, cells-each, cells-at}
+use Rattle.matrix_bytes.proofs.Spots.EachCell.{no, also}
+use Rattle.matrix_bytes.proofs.Cells.{is-thing, is-row, cells-between, cells-each, cells-at}
 
 all-zero : (n k : ℕ) → getD (replicate n 0) k 0 ≡ zero
 all-zero zero k = refl
 all-zero (suc n) zero = refl
 all-zero (suc n) (suc k) = all-zero n k
 
-filled : {h : Head} {ts : List Thing} (c : Cell) → CellOk h ts c → Full c
+filled : {h : Head} {ts : List ThingRecord} (c : CellRecord) → CellOk h ts c → Full c
 filled c o = record { low = o .columnSmall; some = o .full }
 
-module _ (h : Head) (ts : List Thing) (r : Rising h 0 ts) (few : length ts ≤ 48) where
+module _ (h : Head) (ts : List ThingRecord) (r : Rising h 0 ts) (few : length ts ≤ 48) where
   abbrev th : Things
   th = thingsFrom ts
 
@@ -43,20 +47,20 @@ module _ (h : Head) (ts : List Thing) (r : Rising h 0 ts) (few : length ts ≤ 4
   things-held = from-held h ts r few
 
   -- ---- what is found in the list has a seat
-  seated : (x : ℕ) → isThing (typeIn ts x) ≡ known th x
-  seated x = rw (← (from-type h ts r x)) (is-thing th x)
+  seated : (x : ℕ) → isSome (thingWith ts x) ≡ known th x
+  seated x = rw (← (from-thing h ts r few x)) (is-thing th x)
 
-  row-seated : (c : Cell) → CellOk h ts c → T (known th (c .row) && isSubject h (getD (th .types) (seat th (c .row)) noType))
-  row-seated c o = rw (← (is-row h th (c .row)), from-type h ts r) (o .rowIs)
+  row-seated : (c : CellRecord) → CellOk h ts c → T (known th (c .row) && isSubject h (getD (th .types) (seat th (c .row)) noType))
+  row-seated c o = rw (← (is-row h th (c .row)), from-thing h ts r few) (o .rowIs)
 
-  row-known : (c : Cell) → CellOk h ts c → T (known th (c .row))
+  row-known : (c : CellRecord) → CellOk h ts c → T (known th (c .row))
   row-known c o = and-left (known th (c .row)) _ (row-seated c o)
 
-  column-known : (c : Cell) → CellOk h ts c → T (known th (c .column))
+  column-known : (c : CellRecord) → CellOk h ts c → T (known th (c .column))
   column-known c o = rw (← (seated (c .column))) (o .columnIs)
 
   known-small : (x : ℕ) → T (known th x) → x ≤ 65535
-  known-small x k = rw (seat-is th x k) at (things-held .small (seat th x))
+  known-small x k = rw (seat-is th x k) at (ids-small h th things-held (seat th x))
 
   -- ---- places
   place-lt : (x y : ℕ) → T (known th x) → T (known th y) → place th x y < 2304
@@ -74,7 +78,7 @@ module _ (h : Head) (ts : List Thing) (r : Rising h 0 ts) (few : length ts ≤ 4
       rw (same-seat a x ka kx (omega arith), same-seat b y kb ky (omega arith))
 
   -- ---- stores
-  store-at : (x y : ℕ) → T (known th x) → T (known th y) → {k b : ℕ} {cs : List Cell} → Between k cs b → Each (CellOk h ts) cs →
+  store-at : (x y : ℕ) → T (known th x) → T (known th y) → {k b : ℕ} {cs : List CellRecord} → Between k cs b → EachCell (CellOk h ts) cs →
       (cells : List ℕ) → length cells ≡ 2304 → getD (storeAll th cells cs) (place th x y) 0 ≡ rightsOr (getD cells (place th x y) 0) cs (spot x y)
   unfolding storeAll store rightsOr
   store-at x y kx ky (stop l) no cells room = refl
@@ -101,8 +105,8 @@ module _ (h : Head) (ts : List Thing) (r : Rising h 0 ts) (few : length ts ≤ 4
           (λ z. eqb-false (spotOf c) (spot x y) e (same-place (c .row) (c .column) x y kr kc kx ky (sym z))))
 
   -- what holds of each store and of all that stood there holds of each place
-  store-all : (P : ℕ → ℕ → Type 0) → ((c : Cell) → CellOk h ts c → P (place th (c .row) (c .column)) (c .rights)) →
-      {cs : List Cell} → Each (CellOk h ts) cs → (cells : List ℕ) → length cells ≡ 2304 → ((k : ℕ) → P k (getD cells k 0)) →
+  store-all : (P : ℕ → ℕ → Type 0) → ((c : CellRecord) → CellOk h ts c → P (place th (c .row) (c .column)) (c .rights)) →
+      {cs : List CellRecord} → EachCell (CellOk h ts) cs → (cells : List ℕ) → length cells ≡ 2304 → ((k : ℕ) → P k (getD cells k 0)) →
       (k : ℕ) → P k (getD (storeAll th cells cs) k 0)
   unfolding storeAll store
   store-all P f no cells room base = base
@@ -111,12 +115,12 @@ module _ (h : Head) (ts : List Thing) (r : Rising h 0 ts) (few : length ts ≤ 4
       store-all P f q (set cells at (c .rights)) (length-set cells at (c .rights) ∙ room)
       (λ k. stored (P k) cells at (c .rights) k 0 (rw room (place-lt _ _ (row-known c p) (column-known c p))) (λ e. rw e (f c p)) (λ ne. base k))
 
-  store-room : (cells : List ℕ) (cs : List Cell) → length (storeAll th cells cs) ≡ length cells
+  store-room : (cells : List ℕ) (cs : List CellRecord) → length (storeAll th cells cs) ≡ length cells
   unfolding storeAll store
   store-room cells [] = refl
   store-room cells (c ∷ cs) = store-room _ cs ∙ length-set cells (place th (c .row) (c .column)) (c .rights)
 
-  cell-stands : (c : Cell) → CellOk h ts c → T (standing h th (seat th (c .row)) (seat th (c .column)))
+  cell-stands : (c : CellRecord) → CellOk h ts c → T (standing h th (seat th (c .row)) (seat th (c .column)))
   unfolding standing
   cell-stands c o =
       let kr = row-known c o in
@@ -128,7 +132,7 @@ module _ (h : Head) (ts : List Thing) (r : Rising h 0 ts) (few : length ts ≤ 4
         eqb-not (c .column) 0 (known-nonzero th (c .column) kc),
       ) (and-right (known th (c .row)) _ (row-seated c o))
 
-  not-here : (i j : ℕ) → j < 48 → T (not (standing h th i j)) → (c : Cell) → CellOk h ts c → place th (c .row) (c .column) ≡ i * 48 + j → ⊥
+  not-here : (i j : ℕ) → j < 48 → T (not (standing h th i j)) → (c : CellRecord) → CellOk h ts c → place th (c .row) (c .column) ≡ i * 48 + j → ⊥
   unfolding place
   not-here i j l n c o e =
       let lc = seat-lt h th things-held (c .column) (column-known c o) in
@@ -137,9 +141,9 @@ module _ (h : Head) (ts : List Thing) (r : Rising h 0 ts) (few : length ts ≤ 4
       not-both (standing h th i j) (rw (ei, ej) (cell-stands c o)) n
 
   -- ---- the matrix
-  module _ (cs : List Cell) (each : Each (CellOk h ts) cs) where
+  module _ (cs : List CellRecord) (each : EachCell (CellOk h ts) cs) where
     -- all its places, from those of an empty matrix
-    stored-all : (P : ℕ → ℕ → Type 0) → ((k : ℕ) → P k 0) → ((c : Cell) → CellOk h ts c → P (place th (c .row) (c .column)) (c .rights)) →
+    stored-all : (P : ℕ → ℕ → Type 0) → ((k : ℕ) → P k 0) → ((c : CellRecord) → CellOk h ts c → P (place th (c .row) (c .column)) (c .rights)) →
         (k : ℕ) → P k (getD (matrixFrom ts cs .cells) k 0)
     unfolding matrixFrom
     stored-all P z f = store-all P f each (replicate 2304 0) (length-replicate 2304 zero) (λ k. rw (all-zero 2304 k) (z k))

@@ -1,111 +1,41 @@
 -- The round trips of a matrix's records: its head, its things, and its cells up to the end of the input.
 -- Assumes nothing.
-use Prim.Native.Nat.{ℕ, zero, suc, _+_, _-_, _^_, _≤_, _<_}
+use Prim.Native.Nat.{ℕ, zero, suc, _+_, _-_, _≤_, _<_}
 use mathlib.Core.Path.{_≡_, refl, sym, ap, _∙_}
 use mathlib.Core.Logic.{_≢_}
-use mathlib.Core.Bool.{Bool, true, false, not, cond, _&&_, _||_}
-use mathlib.Core.Option.{Option, none, some}
+use mathlib.Core.Bool.{Bool, true, false, cond, _&&_, _||_}
+use mathlib.Core.Option.{some}
 use mathlib.Core.List.{List, [], _∷_}
 use native.Mathlib.Nat.{add-zero}
 use native.Mathlib.Omega.{arith}
-use lib.Dec.{T, eqb, ltb, eqb→eq, eqb-refl, ltb→lt, lt→ltb}
+use lib.Dec.{T, eqb, ltb, lt→ltb}
 use lib.ListN.{length, drop, length-append, length-drop}
-use lib.Pow.{pow-mono}
-use mir.Facts.{eqb-no, no-eqb, yes-eqb}
+use mir.Facts.{yes-eqb}
 use borrow.Author.Tests.{eq-eqb, eqb-true, ltb-true, ltb-false}
-use Rattle.rights.specs.declared.ThingType.{ThingType}
 use Rattle.model.specs.declared.Head.{Head}
-use Rattle.model.proofs.Bools.{and-both, eqb-not}
-use Rattle.records.specs.Bytes.{recordBytes, littleEndian}
+use Rattle.laws.proofs.Bools.{and-both, eqb-not}
+use Rattle.records.specs.Bytes.{recordBytes, eachBytes}
 use Rattle.records.specs.Reading.{Read, got, Reader, done, steps, _>>=_}
 use Rattle.records.specs.Front.{Refusal, inRecord}
-use Rattle.records.proofs.Trip.{Trip, Bytes, Stand, body, input, encAll, OkAll, bind-got, got-same, stand-none, stand-join, stand-split}
-use Rattle.records.proofs.Trip.{trip-as, trip-done, trip-check, trip-then, trip-last, trip-steps}
+use Rattle.records.proofs.Trip.{Trip, Bytes, Stand, input, OkAll, bind-got, got-same, stand-none, stand-join, stand-split}
+use Rattle.records.proofs.Trip.{trip-as, trip-steps}
 use Rattle.records.proofs.BytesLaws.{length-record}
-use Rattle.records.proofs.TripFields.{trip-number, trip-field}
-use Rattle.records.proofs.TripRecord.{trip-kind}
-use Rattle.matrix_bytes.specs.Content.{Thing, Cell}
-use Rattle.matrix_bytes.specs.Read.{head, thing, cell, typeIn, isThing, isRow, above, start, toEnd}
-use Rattle.matrix_bytes.specs.Write.{thingBytes, cellBytes, thingRecords, cellRecords}
-use Rattle.matrix_bytes.proofs.Rising.{ThingOk, Rising}
-use Rattle.matrix_bytes.proofs.Spots.{spot, spotOf, Between, Each}
+use Rattle.matrix_records.specs.Content.{ThingRecord, CellRecord}
+use Rattle.matrix_records.specs.Read.{thing, cell, above, start}
+use Rattle.matrix_records.specs.Write.{thingBytes, cellBytes}
+use Rattle.matrix_records.proofs.Trips.{Sized, CellOk, NextOk, thing-record, cell-record}
+use Rattle.matrix_bytes.specs.Read.{toEnd}
+use Rattle.matrix_bytes.proofs.Rising.{Rising}
+use Rattle.matrix_bytes.proofs.Spots.{spot, spotOf, Between, EachCell}
 use Rattle.matrix_bytes.proofs.Spots.Between.{stop, on}
-use Rattle.matrix_bytes.proofs.Spots.Each.{no, also}
-use Rattle.matrix_bytes.proofs.Cells.{CellOk}
+use Rattle.matrix_bytes.proofs.Spots.EachCell.{no, also}
 
-row-thing : (h : Head) (t : Option ThingType) → T (isRow h t) → T (isThing t)
-unfolding isRow isThing
-row-thing h none t = t
-row-thing h (some u) t = tt
-
--- a cell that may stand behind the cell `last`
-abbrev pub NextOk : Head → List Thing → Cell → Cell → Type 0
-NextOk h ts last c = T (above last (c .row) (c .column)) × CellOk h ts c
-
--- what a matrix's bytes need of its scheme's head
-pub record Sized (h : Head) : Type 0 where
-  pub rights : (1 ≤ h .rights) × (h .rights ≤ 64)
-  pub types : h .types ≤ 16
-
--- ---- bodies
-module _ (h : Head) (z : Sized h) where
-  head-trip : Trip body (head h) (λ count. h .rights ∷ count ∷ []) (λ count. count ≤ 48)
-  unfolding head
-  head-trip =
-      trip-as
-      (trip-then (trip-field 1 65 4) (λ count. h .rights) (λ r count l o. sym (eqb→eq r (h .rights) (o .0))) λ r l.
-      trip-check (eqb r (h .rights)) 6 λ same. trip-field 0 49 4)
-      (λ count o. refl)
-      (λ count o. omega arith)
-      (λ count o. ((omega arith, omega arith, omega arith), (eqb-refl (h .rights), (omega arith, omega arith, omega arith))))
-
-  thing-trip : (last : ℕ) → Trip body (thing h last) thingBytes (ThingOk h last)
-  unfolding thing thingBytes
-  thing-trip last =
-      trip-as
-      (trip-then (trip-number 2) (λ t. t .id) (λ x t l o. cc) λ x l.
-      trip-check (not (eqb x 0)) 6 λ nz. trip-check (ltb last x) 7 λ over.
-      trip-last (trip-field 0 (h .types) 5) (λ v. record { id = x; type = record { 0 = v } }) (λ t. t .type .0) λ v l. refl)
-      (λ t o. refl)
-      (λ t o. search (arith, ltb→lt))
-      (λ t o. let nz : t .id ≢ 0 = omega arith in search (arith, no-eqb, lt→ltb))
-
-  cell-trip : (ts : List Thing) (last : Cell) → Trip body (cell h ts last) cellBytes (NextOk h ts last)
-  unfolding cell cellBytes littleEndian
-  cell-trip ts last =
-      trip-as
-      (trip-then (trip-number 2) (λ c. c .row) (λ x c l o. cc) λ x l.
-      trip-check (isThing (typeIn ts x)) 5 λ rowThing. trip-check (isRow h (typeIn ts x)) 6 λ rowIs.
-      trip-then (trip-number 2) (λ c. c .column) (λ y c l o. cc) λ y l.
-      trip-check (isThing (typeIn ts y)) 5 λ columnIs. trip-check (above last x y) 7 λ over.
-      trip-then (trip-number 8) (λ c. c .rights) (λ v c l o. cc) λ v l.
-      trip-check (ltb v (2 ^ h .rights)) 5 λ within. trip-check (not (eqb v 0)) 6 λ full. trip-done (record { row = x; column = y; rights = v }))
-      (λ c o. refl)
-      (λ c o. search (arith, ltb→lt, eqb-no))
-      (λ c o. let low = pow-mono (z .rights .1) in search (arith, row-thing, lt→ltb, no-eqb))
-
-  -- ---- their records
-  module _ (s : List ℕ) where
-    pub head-record : Trip (input s) (inRecord s 8 (λ kind. head h)) (λ count. recordBytes 3 (h .rights ∷ count ∷ [])) (λ count. count ≤ 48)
-    head-record = trip-kind s 3 (omega arith) head-trip (λ count o. omega arith)
-
-    thing-record : (last : ℕ) → Trip (input s) (inRecord s 16 (λ kind. thing h last)) (λ t. recordBytes 4 (thingBytes t)) (ThingOk h last)
-    unfolding thingBytes littleEndian
-    thing-record last = trip-kind s 4 (omega arith) (thing-trip last) (λ t o. omega arith)
-
-    pub cell-record : (ts : List Thing) (last : Cell) →
-        Trip (input s) (inRecord s 32 (λ kind. cell h ts last)) (λ c. recordBytes 5 (cellBytes c)) (NextOk h ts last)
-    unfolding cellBytes littleEndian
-    cell-record ts last = trip-kind s 5 (omega arith) (cell-trip ts last) (λ c o. omega arith)
-
-    pub things-trip : (count : ℕ) → Trip (input s) (steps (λ last. inRecord s 16 (λ kind. thing h last)) (λ last t. t .id) count 0) thingRecords
-        (λ ts. Rising h 0 ts × (length ts ≡ count))
-    unfolding thingRecords
-    things-trip count = trip-as (trip-steps thing-record (λ last t. t .id) count 0) (λ ts o. all ts) (λ ts o. o) (λ ts o. o)
-      where
-        all : (ts : List Thing) → encAll (λ t. recordBytes 4 (thingBytes t)) ts ≡ thingRecords ts
-        all [] = refl
-        all (t ∷ ts) = rw (all ts)
+-- ---- the things
+pub things-trip : (h : Head) → Sized h → (s : List ℕ) (count : ℕ) →
+    Trip (input s) (steps (λ last. inRecord s 16 (λ kind. thing h last)) (λ last t. t .id) count 0) (eachBytes (λ t. recordBytes 4 (thingBytes t)))
+    (λ ts. Rising h 0 ts × (length ts ≡ count))
+things-trip h z s count =
+    trip-as (trip-steps (thing-record h z s) (λ last t. t .id) count 0) (λ ts o. refl) (λ ts o. o) (λ ts o. o)
 
 -- ---- up to the end of the input
 pub stand-le : {s v : List ℕ} {i j : ℕ} → Stand s v i j → i ≤ length s → j ≤ length s
@@ -115,22 +45,22 @@ stand-le {s} {v} {i} {j} e l =
 
 module _ {A S : Type 0} (s : List ℕ) {p : S → Reader ℕ Refusal A} {enc : A → List ℕ} {Ok : S → A → Type 0}
     (t : (st : S) → Trip (input s) (p st) enc (Ok st)) (next : S → A → S) (long : (a : A) → 0 < length (enc a)) where
-  pub end-there : (fuel : ℕ) (st : S) (xs : List A) → OkAll next Ok st xs → (i : ℕ) → Stand s (encAll enc xs) i (length s) → length (encAll enc xs) ≤ fuel →
+  pub end-there : (fuel : ℕ) (st : S) (xs : List A) → OkAll next Ok st xs → (i : ℕ) → Stand s (eachBytes enc xs) i (length s) → length (eachBytes enc xs) ≤ fuel →
       toEnd s p next fuel st i ≡ got xs (length s)
   unfolding toEnd
   end-there zero st [] o i r l = rw (r .next) (rw add-zero)
-  end-there zero st (a ∷ xs) o i r l = absurd (omega (arith, long a, length-append (enc a) (encAll enc xs)))
+  end-there zero st (a ∷ xs) o i r l = absurd (omega (arith, long a, length-append (enc a) (eachBytes enc xs)))
   end-there (suc fuel) st [] o i r l = let e : i ≡ length s = omega (arith, r .next) in rw (e, eq-eqb (length s) (length s) refl)
   end-there (suc fuel) st (a ∷ xs) o i r l =
-      let m = stand-split s (enc a) (encAll enc xs) r in
+      let m = stand-split s (enc a) (eachBytes enc xs) r in
       let e : p st i ≡ got a (m .0) = t st .there a (o .0) i (m .0) (m .1) in
-      let more = length-append (enc a) (encAll enc xs) in
+      let more = length-append (enc a) (eachBytes enc xs) in
       let some = long a in
       let before : i ≢ length s = λ z. omega (arith, r .next) in
       rw (eqb-not i (length s) before, e, end-there fuel (next st a) xs (o .1) (m .0) (m .2) (omega arith))
 
   abbrev pub Ended : S → ℕ → List A → ℕ → Type 0
-  Ended st i xs j = Stand s (encAll enc xs) i j × (OkAll next Ok st xs × (j ≡ length s))
+  Ended st i xs j = Stand s (eachBytes enc xs) i j × (OkAll next Ok st xs × (j ≡ length s))
 
   -- with fuel for each byte that is left
   abbrev Back : ℕ → Type 0
@@ -149,16 +79,12 @@ module _ {A S : Type 0} (s : List ℕ) {p : S → Reader ℕ Refusal A} {enc : A
           let b = t st .back i (m .1) (m .0) g (m .2) in
           let d = bind-got (toEnd s p next fuel (next st (m .0)) (m .1)) (λ ys. done (m .0 ∷ ys)) (m .3) in
           let c = later (next st (m .0)) (m .1) (d .1) (d .0) (stand-le (b .0) l) (omega (arith, b .0 .next, long (m .0))) (d .2) in
-          got-same (Ended st i) {a = m .0 ∷ d .0} (d .3) (stand-join s (enc (m .0)) (encAll enc (d .0)) (b .0) (c .0), ((b .1, c .1 .0), c .1 .1))
+          got-same (Ended st i) {a = m .0 ∷ d .0} (d .3) (stand-join s (enc (m .0)) (eachBytes enc (d .0)) (b .0) (c .0), ((b .1, c .1 .0), c .1 .1))
 
 -- ---- the cells
-all-cells : (cs : List Cell) → encAll (λ c. recordBytes 5 (cellBytes c)) cs ≡ cellRecords cs
-unfolding cellRecords
-all-cells [] = refl
-all-cells (c ∷ cs) = rw (all-cells cs)
 
 -- a place above the one before has a higher spot
-above-spot : (last : Cell) (x y : ℕ) → last .column ≤ 65535 → T (above last x y) → spotOf last < spot x y
+above-spot : (last : CellRecord) (x y : ℕ) → last .column ≤ 65535 → T (above last x y) → spotOf last < spot x y
 unfolding above
 above-spot last x y l = go (ltb (last .row) x) refl (eqb (last .row) x) refl (ltb (last .column) y) refl
   where
@@ -169,7 +95,7 @@ above-spot last x y l = go (ltb (last .row) x) refl (eqb (last .row) x) refl (lt
     go false e true f false q t = absurd t
     go false e false f c q t = absurd t
 
-spot-above : (last : Cell) (x y : ℕ) → y ≤ 65535 → spotOf last < spot x y → T (above last x y)
+spot-above : (last : CellRecord) (x y : ℕ) → y ≤ 65535 → spotOf last < spot x y → T (above last x y)
 unfolding above
 spot-above last x y l o = go (ltb (last .row) x) refl
   where
@@ -184,13 +110,13 @@ spot-above last x y l o = go (ltb (last .row) x) refl
 abbrev pub top : ℕ
 top = spot 65535 65535
 
-module _ (h : Head) (ts : List Thing) where
-  rising-ok : {b : ℕ} {cs : List Cell} (last : Cell) → Between (spotOf last) cs b → Each (CellOk h ts) cs → OkAll (λ last c. c) (NextOk h ts) last cs
+module _ (h : Head) (ts : List ThingRecord) where
+  rising-ok : {b : ℕ} {cs : List CellRecord} (last : CellRecord) → Between (spotOf last) cs b → EachCell (CellOk h ts) cs → OkAll (λ last c. c) (NextOk h ts) last cs
   rising-ok last (stop l) no = tt
   rising-ok last (on {c = c} o w) (also p q) = ((spot-above last (c .row) (c .column) (p .columnSmall) o, p), rising-ok c w q)
 
-  ok-rising : (last : Cell) (cs : List Cell) → last .column ≤ 65535 → spotOf last ≤ top → OkAll (λ last c. c) (NextOk h ts) last cs →
-      Between (spotOf last) cs top × Each (CellOk h ts) cs
+  ok-rising : (last : CellRecord) (cs : List CellRecord) → last .column ≤ 65535 → spotOf last ≤ top → OkAll (λ last c. c) (NextOk h ts) last cs →
+      Between (spotOf last) cs top × EachCell (CellOk h ts) cs
   ok-rising last [] l u o = (stop u, no)
   ok-rising last (c ∷ cs) l u o =
       let p : CellOk h ts c = o .0 .1 in
@@ -198,25 +124,24 @@ module _ (h : Head) (ts : List Thing) where
       let r = ok-rising c cs (p .columnSmall) up (o .1) in
       (on (above-spot last (c .row) (c .column) l (o .0 .0)) (r .0), also p (r .1))
 
-module _ (h : Head) (z : Sized h) (s : List ℕ) (ts : List Thing) where
-  abbrev cellsRead : ℕ → Read ℕ Refusal (List Cell)
+module _ (h : Head) (z : Sized h) (s : List ℕ) (ts : List ThingRecord) where
+  abbrev cellsRead : ℕ → Read ℕ Refusal (List CellRecord)
   cellsRead = toEnd s (λ last. inRecord s 32 (λ kind. cell h ts last)) (λ last c. c) (length s) start
 
-  some-bytes : (c : Cell) → 0 < length (recordBytes 5 (cellBytes c))
+  some-bytes : (c : CellRecord) → 0 < length (recordBytes 5 (cellBytes c))
   some-bytes c = omega (arith, length-record 5 (cellBytes c))
 
-  pub cells-there : {b : ℕ} {cs : List Cell} → Between 0 cs b → Each (CellOk h ts) cs → (i : ℕ) → Stand s (cellRecords cs) i (length s) →
+  pub cells-there : {b : ℕ} {cs : List CellRecord} → Between 0 cs b → EachCell (CellOk h ts) cs → (i : ℕ) → Stand s (eachBytes (λ c. recordBytes 5 (cellBytes c)) cs) i (length s) →
       cellsRead i ≡ got cs (length s)
   unfolding start
   cells-there {cs = cs} w p i r =
-      let all = all-cells cs in
       let ok = rising-ok h ts start w p in
-      end-there s (cell-record h z s ts) (λ last c. c) some-bytes (length s) start cs ok i (rw all r) (rw all (omega (arith, r .next)))
+      end-there s (cell-record h z s ts) (λ last c. c) some-bytes (length s) start cs ok i r (omega (arith, r .next))
 
-  pub cells-back : Bytes s → (i j : ℕ) (cs : List Cell) → i ≤ length s → cellsRead i ≡ got cs j →
-      Stand s (cellRecords cs) i j × Between 0 cs top × Each (CellOk h ts) cs × (j ≡ length s)
+  pub cells-back : Bytes s → (i j : ℕ) (cs : List CellRecord) → i ≤ length s → cellsRead i ≡ got cs j →
+      Stand s (eachBytes (λ c. recordBytes 5 (cellBytes c)) cs) i j × Between 0 cs top × EachCell (CellOk h ts) cs × (j ≡ length s)
   unfolding start
   cells-back g i j cs l e =
       let b = end-back s (cell-record h z s ts) (λ last c. c) some-bytes g (length s) start i j cs l (omega arith) e in
       let o = ok-rising h ts start cs (omega arith) (omega arith) (b .1 .0) in
-      (rw (all-cells cs) at (b .0), o .0, o .1, b .1 .1)
+      (b .0, o .0, o .1, b .1 .1)

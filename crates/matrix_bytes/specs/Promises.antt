@@ -6,8 +6,8 @@ use mathlib.Core.Logic.{_≢_, _⊎_}
 use mathlib.Core.List.{List}
 use lib.Dec.{T}
 use lib.ListN.{length, getD}
-use Rattle.model.specs.Seats.{Matrix, noType, standsFor}
-use Rattle.model.specs.Accepted.{acceptedScheme, acceptedMatrix}
+use Rattle.model.specs.Seats.{Matrix, thingIn, standsFor}
+use Rattle.model.specs.Accepted.{zeroThing, acceptedScheme, acceptedMatrix}
 use Rattle.model.specs.declared.Scheme.{Scheme}
 use Rattle.records.specs.Reading.{got}
 use Rattle.matrix_bytes.specs.Content.{thingsOf, cellsOf, matrixFrom}
@@ -25,14 +25,14 @@ pub record RoundTrips : Type 0 where
   pub back : (s : Scheme) (bytes : List ℕ) (m : Matrix) (next : ℕ) → T (acceptedScheme s) → ((i : ℕ) → getD bytes i 0 < 256) →
       matrix (s .head) bytes 0 ≡ got m next → T (acceptedMatrix (s .head) m) × (bytes ≡ matrixBytes (s .head) m) × (next ≡ length bytes)
 
--- nothing stands in what is unused: the arrays are as long as they are declared, no id stands twice, a free seat has type 0, and a place of a free
--- seat is 0
+-- nothing stands in what is unused: the arrays are as long as they are declared, no id stands twice, what sits at a free seat is at zero, and a
+-- place of a free seat is 0
 pub record Tidy (m : Matrix) : Type 0 where
   pub idRoom : length (m .things .ids) ≡ 48
   pub typeRoom : length (m .things .types) ≡ 48
   pub cellRoom : length (m .cells) ≡ 2304
   pub apart : (i j : ℕ) → i < 48 → j < 48 → getD (m .things .ids) i 0 ≢ 0 → getD (m .things .ids) i 0 ≡ getD (m .things .ids) j 0 → i ≡ j
-  pub free : (i : ℕ) → getD (m .things .ids) i 0 ≡ 0 → getD (m .things .types) i noType .0 ≡ 0
+  pub free : (i : ℕ) → i < 48 → getD (m .things .ids) i 0 ≡ 0 → T (zeroThing (thingIn (m .things) i))
   pub bare : (i j : ℕ) → j < 48 → (getD (m .things .ids) i 0 ≡ 0) ⊎ (getD (m .things .ids) j 0 ≡ 0) → getD (m .cells) (i * 48 + j) 0 ≡ 0
 
 -- 27 for a matrix: accepted exactly if some bytes read, against that scheme, as a matrix with the same content (the same things, the same cells by

@@ -1,2 +1,2 @@
--- What the writer's parts do, seat by seat; it serves the proofs only. The bytes themselves are said in `matrix_bytes`.
-pub mod Seated
+-- What the writer of a matrix does by its parts. The bytes themselves, and what the writing answers, are said in `matrix_bytes`.
+pub mod Inner

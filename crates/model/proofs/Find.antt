@@ -10,12 +10,12 @@ use native.Mathlib.Nat.{not-suc-le-zero, le-of-suc-le-suc}
 use native.Mathlib.Omega.{arith}
 use lib.Dec.{T, eqb, eqb→eq, eqb-refl}
 use lib.ListN.{length, getD, set}
-use Rattle.rights.specs.declared.ThingType.{ThingType}
-use Rattle.model.specs.Check.{isSome}
-use Rattle.model.specs.Seats.{among, find, known, seat, thingAt, noType}
+use Rattle.model.specs.Request.{Thing}
+use Rattle.laws.specs.Check.{isSome}
+use Rattle.model.specs.Seats.{among, find, known, seat, thingIn, thingAt}
 use Rattle.model.specs.declared.Head.{Head}
 use Rattle.model.specs.declared.Things.{Things}
-use Rattle.model.proofs.Bools.{is-true, and-right, eqb-not}
+use Rattle.laws.proofs.Bools.{is-true, and-right, eqb-not}
 use Rattle.model.proofs.Held.{HeldThings}
 
 -- ---- in a list
@@ -77,7 +77,7 @@ module _ (th : Things) (x : ℕ) where
   unfolding thingAt isSome
   is-known = go (known th x)
     where
-      go : (b : Bool) → isSome (cond b (some (getD (th .types) (seat th x) noType)) none) ≡ b
+      go : (b : Bool) → isSome (cond b (some (thingIn th (seat th x))) none) ≡ b
       go true = refl
       go false = refl
 
@@ -88,15 +88,15 @@ module _ (th : Things) (x : ℕ) where
   unfolding thingAt
   none-known = go (known th x)
     where
-      go : (b : Bool) → cond b (some (getD (th .types) (seat th x) noType)) none ≡ none → T b → ⊥
+      go : (b : Bool) → cond b (some (thingIn th (seat th x))) none ≡ none → T b → ⊥
       go true e t = let z : _≡_ {A = ℕ} 0 1 = cc in omega arith
       go false e t = t
 
-  pub some-type : (t : ThingType) → thingAt th x ≡ some t → getD (th .types) (seat th x) noType ≡ t
+  pub some-thing : (t : Thing) → thingAt th x ≡ some t → thingIn th (seat th x) ≡ t
   unfolding thingAt
-  some-type t = go (known th x)
+  some-thing t = go (known th x)
     where
-      go : (b : Bool) → cond b (some (getD (th .types) (seat th x) noType)) none ≡ some t → getD (th .types) (seat th x) noType ≡ t
+      go : (b : Bool) → cond b (some (thingIn th (seat th x))) none ≡ some t → thingIn th (seat th x) ≡ t
       go true e = cc
       go false e = let z : _≡_ {A = ℕ} 0 1 = cc in absurd (omega arith)
 

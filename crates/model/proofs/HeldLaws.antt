@@ -6,22 +6,28 @@ use mathlib.Core.Logic.{_≢_}
 use mathlib.Core.Bool.{Bool, true, false, not, cond, _&&_, _||_}
 use mathlib.Core.List.{List, [], _∷_}
 use native.Mathlib.Nat.{add-zero, add-suc, suc-add, zero-add, not-suc-le-zero, le-of-suc-le-suc}
+use native.Mathlib.Decide.{decLt}
 use native.Mathlib.Omega.{arith}
 use lib.Dec.{T, eqb, leb, ltb, eqb→eq, leb→le, le→leb, ltb→lt, lt→ltb, not-T}
 use lib.ListN.{length, getD}
 use lib.Pow.{pow-pos}
 use borrow.Author.Tests.{eq-eqb, eqb-true, eqb-false}
-use Rattle.rights.specs.declared.ThingType.{ThingType}
-use Rattle.model.specs.Seats.{Matrix, among, find, noType}
-use Rattle.model.specs.Accepted.{apart, zeroType, acceptedSeats, acceptedThings, standing, acceptedPlaces, acceptedMatrix}
+use Rattle.model.specs.Request.{Thing}
+use Rattle.model.specs.Seats.{Matrix, among, find, thingIn}
+use Rattle.model.specs.Accepted.{apart, zeroThing, acceptedSeat, allFrom, acceptedThings, standing, acceptedPlaces, acceptedMatrix}
 use Rattle.model.specs.declared.Head.{Head}
 use Rattle.model.specs.declared.Things.{Things}
-use Rattle.model.proofs.Bools.{from-true, and-left, and-right, and-both, not-both, eqb-not}
+use Rattle.laws.proofs.Bools.{from-true, and-left, and-right, and-both, not-both, eqb-not}
 use Rattle.model.proofs.Held.{HeldThings, Held}
 use Rattle.model.proofs.Find.{find-lt, find-is, among-get}
 
 equal : (a b : ℕ) → a ≡ b → T (eqb a b)
 equal a b e = from-true (eq-eqb a b e)
+
+getD-beyond : (l : List ℕ) (i d : ℕ) → length l ≤ i → getD l i d ≡ d
+getD-beyond [] i d h = refl
+getD-beyond (x ∷ xs) zero d h = absurd (omega arith)
+getD-beyond (x ∷ xs) (suc i) d h = getD-beyond xs i d (omega arith)
 
 -- ---- no two things have one id
 
@@ -59,56 +65,44 @@ apart-all (x ∷ xs) h =
 
 -- ---- seats
 
-seatOk : Head → ℕ → ThingType → Bool
-seatOk s x t = cond (eqb x 0) (zeroType t) (leb x 65535 && ltb (t .0) (s .types))
+from-at : (f : ℕ → Bool) (i k : ℕ) → T (allFrom f i k) → (j : ℕ) → j < k → T (f (i + j))
+unfolding allFrom
+from-at f i zero t j h = absurd (not-suc-le-zero h)
+from-at f i (suc k) t zero h = rw (add-zero i) (and-left (f i) _ t)
+from-at f i (suc k) t (suc j) h = rw (add-suc i j, ← (suc-add i j)) (from-at f (suc i) k (and-right (f i) _ t) j (le-of-suc-le-suc h))
 
-seats-room : (s : Head) (xs : List ℕ) (ts : List ThingType) → T (acceptedSeats s xs ts) → length ts ≡ length xs
-unfolding acceptedSeats seatOk
-seats-room s [] [] t = refl
-seats-room s [] (u ∷ ts) t = absurd t
-seats-room s (x ∷ xs) [] t = absurd t
-seats-room s (x ∷ xs) (u ∷ ts) t = ap suc (seats-room s xs ts (and-right (seatOk s x u) (acceptedSeats s xs ts) t))
+from-all : (f : ℕ → Bool) (i k : ℕ) → ((j : ℕ) → j < k → T (f (i + j))) → T (allFrom f i k)
+unfolding allFrom
+from-all f i zero h = tt
+from-all f i (suc k) h =
+    and-both (f i) _ (rw (add-zero i) at (h zero (omega arith))) (from-all f (suc i) k (λ j l. rw (suc-add i j, ← (add-suc i j)) (h (suc j) (omega arith))))
 
-seats-at : (s : Head) (xs : List ℕ) (ts : List ThingType) → T (acceptedSeats s xs ts) → (i : ℕ) → T (seatOk s (getD xs i 0) (getD ts i noType))
-unfolding acceptedSeats zeroType seatOk
-seats-at s [] [] t i = tt
-seats-at s [] (u ∷ ts) t i = absurd t
-seats-at s (x ∷ xs) [] t i = absurd t
-seats-at s (x ∷ xs) (u ∷ ts) t zero = and-left (seatOk s x u) (acceptedSeats s xs ts) t
-seats-at s (x ∷ xs) (u ∷ ts) t (suc i) = seats-at s xs ts (and-right (seatOk s x u) (acceptedSeats s xs ts) t) i
-
-seats-all : (s : Head) (xs : List ℕ) (ts : List ThingType) → length ts ≡ length xs
-    → ((i : ℕ) → T (seatOk s (getD xs i 0) (getD ts i noType))) → T (acceptedSeats s xs ts)
-unfolding acceptedSeats seatOk
-seats-all s [] [] e h = tt
-seats-all s [] (u ∷ ts) e h = absurd (omega arith)
-seats-all s (x ∷ xs) [] e h = absurd (omega arith)
-seats-all s (x ∷ xs) (u ∷ ts) e h = and-both (seatOk s x u) (acceptedSeats s xs ts) (h zero) (seats-all s xs ts (omega arith) (λ i. h (suc i)))
-
--- what a seat's test says, and what it takes
-seat-small : (s : Head) (x : ℕ) (t : ThingType) → T (seatOk s x t) → x ≤ 65535
-unfolding seatOk
-seat-small s x t k = go (eqb x 0) refl k
+-- what the test of a seat says, and what it takes
+pub seat-small : (s : Head) (th : Things) (x : ℕ) (t : Thing) → T (acceptedSeat s th x t) → x ≤ 65535
+unfolding acceptedSeat
+seat-small s th x t k = go (eqb x 0) refl k
   where
-    go : (b : Bool) → eqb x 0 ≡ b → T (cond b (zeroType t) (leb x 65535 && ltb (t .0) (s .types))) → x ≤ 65535
+    go : (b : Bool) → eqb x 0 ≡ b → T (cond b (zeroThing t) (leb x 65535 && ltb (t .type .0) (s .types))) → x ≤ 65535
     go true e u = rw (eqb-true x 0 e) zero-le
-    go false e u = leb→le x 65535 (and-left (leb x 65535) (ltb (t .0) (s .types)) u)
+    go false e u = leb→le x 65535 (search and-left)
 
-seat-typed : (s : Head) (x : ℕ) (t : ThingType) → T (seatOk s x t) → x ≢ 0 → t .0 < s .types
-unfolding seatOk
-seat-typed s x t k nz = ltb→lt (t .0) (s .types) (and-right (leb x 65535) (ltb (t .0) (s .types)) (rw (eqb-not x 0 nz) at k))
+pub seat-typed : (s : Head) (th : Things) (x : ℕ) (t : Thing) → T (acceptedSeat s th x t) → x ≢ 0 → t .type .0 < s .types
+unfolding acceptedSeat
+seat-typed s th x t k nz = let u = rw (eqb-not x 0 nz) at k in ltb→lt (t .type .0) (s .types) (and-right (leb x 65535) (ltb (t .type .0) (s .types)) u)
 
-seat-free : (s : Head) (x : ℕ) (t : ThingType) → T (seatOk s x t) → x ≡ 0 → t .0 ≡ 0
-unfolding seatOk zeroType
-seat-free s x t k e = eqb→eq (t .0) 0 (rw (eq-eqb x 0 e) at k)
+pub seat-ok : (s : Head) (th : Things) (x : ℕ) (t : Thing) → x ≢ 0 → x ≤ 65535 → t .type .0 < s .types → T (acceptedSeat s th x t)
+unfolding acceptedSeat
+seat-ok s th x t nz h typed =
+    let low = le→leb x 65535 h in
+    let type = lt→ltb (t .type .0) (s .types) typed in
+    rw (eqb-not x 0 nz) (search and-both)
 
-seat-ok : (s : Head) (x : ℕ) (t : ThingType) → x ≤ 65535 → (x ≢ 0 → t .0 < s .types) → (x ≡ 0 → t .0 ≡ 0) → T (seatOk s x t)
-unfolding seatOk zeroType
-seat-ok s x t h typed free = go (eqb x 0) refl
+pub ids-small : (s : Head) (th : Things) → HeldThings s th → (i : ℕ) → getD (th .ids) i 0 ≤ 65535
+ids-small s th ok i = go (decLt i 48)
   where
-    go : (b : Bool) → eqb x 0 ≡ b → T (cond b (eqb (t .0) 0) (leb x 65535 && ltb (t .0) (s .types)))
-    go true e = equal (t .0) 0 (free (eqb-true x 0 e))
-    go false e = and-both (leb x 65535) (ltb (t .0) (s .types)) (le→leb x 65535 h) (lt→ltb (t .0) (s .types) (typed (eqb-false x 0 e)))
+    go : Dec (i < 48) → getD (th .ids) i 0 ≤ 65535
+    go (yes l) = seat-small s th _ _ (ok .seat i l)
+    go (no n) = rw (getD-beyond (th .ids) i 0 (rw (ok .idRoom) (omega arith))) zero-le
 
 -- ---- places of cells
 
@@ -170,15 +164,13 @@ held-things : (s : Head) (th : Things) → T (acceptedThings s th) → HeldThing
 unfolding acceptedThings
 held-things s th t =
     let room : length (th .ids) ≡ 48 = eqb→eq (length (th .ids)) 48 (search (and-left, and-right)) in
-    let seat : T (acceptedSeats s (th .ids) (th .types)) = search (and-left, and-right) in
-    let at = seats-at s (th .ids) (th .types) seat in
+    let types : length (th .types) ≡ 48 = eqb→eq (length (th .types)) 48 (search (and-left, and-right)) in
+    let seats : T (allFrom (λ i. acceptedSeat s th (getD (th .ids) i 0) (thingIn th i)) 0 48) = search (and-left, and-right) in
     record {
       idRoom = room;
-      typeRoom = seats-room s (th .ids) (th .types) seat ∙ room;
+      typeRoom = types;
       apart = rw room at (apart-at (th .ids) (search (and-left, and-right)));
-      small = λ i. seat-small s _ _ (at i);
-      typed = λ i. seat-typed s _ _ (at i);
-      free = λ i. seat-free s _ _ (at i);
+      seat = λ i l. rw (zero-add i) at (from-at (λ i. acceptedSeat s th (getD (th .ids) i 0) (thingIn th i)) 0 48 seats i l);
     }
 
 pub ids-apart : (s : Head) (th : Things) → HeldThings s th → T (apart (th .ids))
@@ -188,8 +180,9 @@ accepted-things : (s : Head) (th : Things) → HeldThings s th → T (acceptedTh
 unfolding acceptedThings
 accepted-things s th h =
     let room = equal (length (th .ids)) 48 (h .idRoom) in
+    let types = equal (length (th .types)) 48 (h .typeRoom) in
     let one = ids-apart s th h in
-    let seat = seats-all s (th .ids) (th .types) (h .typeRoom ∙ sym (h .idRoom)) (λ i. seat-ok s _ _ (h .small i) (h .typed i) (h .free i)) in
+    let seats = from-all (λ i. acceptedSeat s th (getD (th .ids) i 0) (thingIn th i)) 0 48 (λ i l. rw (zero-add i) (h .seat i l)) in
     search and-both
 
 pub held : (s : Head) (m : Matrix) → T (acceptedMatrix s m) → Held s m

@@ -8,45 +8,48 @@ use mathlib.Core.Logic.{_≢_}
 use mathlib.Core.Option.{none, some}
 use mathlib.Core.List.{List, [], _∷_, _++_}
 use lib.ListN.{length, getD}
+use Rattle.rights.specs.Numberings.{parameter}
 use Rattle.rights.specs.declared.ThingType.{ThingType}
-use Rattle.model.specs.Check.{_orElse_}
-use Rattle.model.specs.Scheme.{isNew}
-use Rattle.model.specs.Request.{View, Outcome, done, refused, number, after, andThen, placeFault, placesFault, operate, operateAll}
-use Rattle.model.specs.Seats.{noType}
+use Rattle.laws.specs.Check.{_orElse_}
+use Rattle.model.specs.Scheme.{isNew, noType}
+use Rattle.model.specs.Request.{View, Outcome, done, refused, answer, number, after, andThen, placeFault, placesFault, operate, operateAll}
 use Rattle.model.specs.Promises.{InOrder}
 use Rattle.model.specs.declared.Operation.{Operation}
+use Rattle.model.specs.declared.Refusal.{Refusal}
 
 module _ {M : Type 0} (view : View M) where
   -- from place p on
-  first-from : (m : M) (os : List Operation) (p : ℕ) (ts : List ThingType) (ids : List ℕ) (i k : ℕ) → length ids ≡ length ts → i < length ts →
-      ((j : ℕ) → j < i → placeFault view m (isNew os (p + j)) (getD ts j noType) (getD ids j 0) ≡ none) →
-      placeFault view m (isNew os (p + i)) (getD ts i noType) (getD ids i 0) ≡ some k → placesFault view m os p ts ids ≡ some k
+  first-from : (m : M) (os : List Operation) (p : ℕ) (ts : List ThingType) (ids : List ℕ) (i : ℕ) (k : Refusal) → length ids ≡ length ts → i < length ts →
+      ((j : ℕ) → j < i → placeFault view m (isNew os (parameter (p + j))) (getD ts j noType) (getD ids j 0) ≡ none) →
+      placeFault view m (isNew os (parameter (p + i))) (getD ts i noType) (getD ids i 0) ≡ some k → placesFault view m os p ts ids ≡ some k
   unfolding placesFault _orElse_
   first-from m os p [] ids i k l h pass e = absurd (not-suc-le-zero h)
   first-from m os p (t ∷ ts) [] i k l h pass e = absurd (omega arith)
   first-from m os p (t ∷ ts) (x ∷ ids) zero k l h pass e =
-      let f : placeFault view m (isNew os p) t x ≡ some k = rw add-zero at e in rw f
+      let f : placeFault view m (isNew os (parameter p)) t x ≡ some k = rw add-zero at e in rw f
   first-from m os p (t ∷ ts) (x ∷ ids) (suc i) k l h pass e =
-      let f : placeFault view m (isNew os p) t x ≡ none = rw add-zero at (pass 0 (omega arith)) in
+      let f : placeFault view m (isNew os (parameter p)) t x ≡ none = rw add-zero at (pass 0 (omega arith)) in
       rw f
       (first-from m os (suc p) ts ids i k (omega arith) (le-of-suc-le-suc h)
       (λ j lj. rw (suc-add p j) (rw (add-suc p j) at (pass (suc j) (omega arith))))
       (rw (suc-add p i) (rw (add-suc p i) at e)))
 
-  whole : (ts : List ThingType) (ids : List ℕ) (before : List Operation) (o : Operation) (later : List Operation) (m next : M) (k : ℕ) →
-      operateAll view ts ids before m ≡ done next → operate view ts ids o next ≡ refused k → operateAll view ts ids (before ++ o ∷ later) m ≡ refused k
+  whole : (ts : List ThingType) (ids : List ℕ) (p : ℕ) (before : List Operation) (o : Operation) (later : List Operation) (m next : M) (k : Refusal) →
+      operateAll view ts ids p before m ≡ done next → operate view ts ids (p + length before) o next ≡ refused k →
+      operateAll view ts ids p (before ++ o ∷ later) m ≡ refused k
   unfolding operateAll andThen
-  whole ts ids [] o later m next k d e = let f : m ≡ next = cc in rw (f, e)
-  whole ts ids (b ∷ before) o later m next k d e = go (operate view ts ids b m) d (λ n f. whole ts ids before o later n next k f e)
+  whole ts ids p [] o later m next k d e = let f : m ≡ next = cc in rw f (rw (rw (add-zero p) at e))
+  whole ts ids p (b ∷ before) o later m next k d e =
+      go (operate view ts ids p b m) d (λ n f. whole ts ids (suc p) before o later n next k f (rw (suc-add p (length before)) (rw (add-suc p (length before)) at e)))
     where
-      go : (r : Outcome M) → andThen r (operateAll view ts ids before) ≡ done next →
-          ((n : M) → operateAll view ts ids before n ≡ done next → operateAll view ts ids (before ++ o ∷ later) n ≡ refused k) →
-          andThen r (operateAll view ts ids (before ++ o ∷ later)) ≡ refused k
+      go : (r : Outcome M) → andThen r (operateAll view ts ids (suc p) before) ≡ done next →
+          ((n : M) → operateAll view ts ids (suc p) before n ≡ done next → operateAll view ts ids (suc p) (before ++ o ∷ later) n ≡ refused k) →
+          andThen r (operateAll view ts ids (suc p) (before ++ o ∷ later)) ≡ refused k
       go (done n) f again = again n f
       go (refused j) f again = cc
 
-  none-left : (m : M) (o : Outcome M) → number o ≢ 0 → after m o ≡ m
-  unfolding number after
+  none-left : (m : M) (o : Outcome M) → number (answer o) ≢ 0 → after m o ≡ m
+  unfolding answer number after
   none-left m (done n) h = absurd (h refl)
   none-left m (refused k) h = refl
 

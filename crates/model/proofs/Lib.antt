@@ -1,11 +1,13 @@
--- The proofs of what `Promises` states, each in a file of its own (`Starred`, `InOrder`, `Joined`, `Population` for at most 48), and the laws behind them.
-pub mod Bools
-pub mod Padded
+-- The proofs of what `Promises` states, each in a file of its own (`Starred`, `InOrder`, `Joined`, `Population` for at most 48), of `Translation`,
+-- and the laws behind them; `Computes` gathers what computed examples look through.
+pub mod Computes
 pub mod Starred
 pub mod InOrder
 pub mod Form
+pub mod Built
 pub mod Stands
 pub mod Simulation
+pub mod Invariant
 pub mod Held
 pub mod Find
 pub mod HeldLaws
@@ -14,3 +16,6 @@ pub mod SeatChange
 pub mod SeatThings
 pub mod SeatsStand
 pub mod Joined
+pub mod Translation
+pub mod Refusals
+pub mod Numbers

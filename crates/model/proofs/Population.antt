@@ -4,33 +4,31 @@ use Prim.Native.Nat.{ℕ, zero, suc, _+_, _≤_, _<_}
 use mathlib.Core.Path.{_≡_, refl, sym, ap, _∙_}
 use mathlib.Core.Logic.{_≢_}
 use mathlib.Core.Bool.{Bool, true, false, not, cond, _||_}
-use mathlib.Core.Option.{Option, none, some}
+use mathlib.Core.Option.{none}
 use mathlib.Core.List.{List, [], _∷_}
 use native.Mathlib.Decide.{ℕ-discrete}
 use native.Mathlib.Omega.{arith}
 use lib.Dec.{T, eqb, leb, nleb→lt, leb·suc-suc}
-use lib.ListN.{length, getD, getElem?}
+use lib.ListN.{length, getD}
 use borrow.Author.Tests.{eq-eqb, eqb-true, eqb-false, lt-leb}
 use Rattle.rights.specs.declared.Right.{Right}
 use Rattle.rights.specs.declared.ThingType.{ThingType}
-use Rattle.model.specs.Check.{Fault, passes, isSome}
-use Rattle.model.specs.Scheme.{commandsOf}
-use Rattle.model.specs.Request.{Request, Outcome, done, refused, after, unlessFault, andThen, act, operate, operateAll, carryOut, carryOutIf, step}
-use Rattle.model.specs.Papers.{State, countIds, howMany, nowIs, papers}
-use Rattle.model.specs.Seats.{Matrix, among, known, full, thingAt, standsFor}
+use Rattle.laws.specs.Check.{isSome}
+use Rattle.model.specs.Request.{Request, after, act, step}
+use Rattle.model.specs.Papers.{Population, State, countIds, howMany, nowIs, nowHas, born, gone, papers}
+use Rattle.model.specs.Seats.{Matrix, among, known, full, thingAt, paperThings, standsFor}
 use Rattle.model.specs.Accepted.{apart}
 use Rattle.model.specs.Promises.{AtMost48}
 use Rattle.model.specs.declared.Code.{Code}
 use Rattle.model.specs.declared.Code.the-variants.{Enter, Delete, Create, Destroy}
-use Rattle.model.specs.declared.Operation.{Operation}
-use Rattle.model.specs.declared.Command.{Command}
 use Rattle.model.specs.declared.Head.{Head}
 use Rattle.model.specs.declared.Scheme.{Scheme}
 use Rattle.model.specs.declared.Things.{Things}
-use Rattle.model.proofs.Bools.{is-false, and-right, must-pass, then-pass, eqb-not, one-mono}
+use Rattle.laws.proofs.Bools.{is-false, and-right, must-pass, then-pass, eqb-not, one-mono}
 use Rattle.model.proofs.Held.{Held}
 use Rattle.model.proofs.Find.{is-known}
-use Rattle.model.proofs.HeldLaws.{first-apart, ids-apart, held}
+use Rattle.model.proofs.Invariant.{IfDone, is-done, unless-done, step-keeps}
+use Rattle.model.proofs.HeldLaws.{first-apart, ids-apart, ids-small, held}
 
 -- ---- counts
 
@@ -117,78 +115,51 @@ thing-known : (th : Things) (x : ℕ) → 1 ≤ x → isSome (thingAt th x) ≡ 
 unfolding known
 thing-known th x h = is-known th x ∙ rw (eqb-not x 0 (λ e. omega arith))
 
-population : (s : Head) (m : Matrix) → Held s m → howMany (standsFor m) ≡ taken (m .things .ids)
-unfolding howMany standsFor
+population : (s : Head) (m : Matrix) → Held s m → howMany (standsFor m .things) ≡ taken (m .things .ids)
+unfolding howMany standsFor paperThings
 population s m h =
     count-same 65535 _ _ (λ x a b. thing-known (m .things) x a)
-    ∙ count-among 65535 (m .things .ids) (h .things .small) (ids-apart s (m .things) (h .things))
+    ∙ count-among 65535 (m .things .ids) (ids-small s (m .things) (h .things)) (ids-apart s (m .things) (h .things))
 
-pub full-law : (s : Head) (m : Matrix) → Held s m → full (m .things) ≡ leb 48 (howMany (standsFor m))
+pub full-law : (s : Head) (m : Matrix) → Held s m → full (m .things) ≡ leb 48 (howMany (standsFor m .things))
 unfolding full
 full-law s m h = rw (population s m h, ← (h .things .idRoom)) (taken-all (m .things .ids))
 
-pub few : (s : Head) (m : Matrix) → Held s m → howMany (standsFor m) ≤ 48
+pub few : (s : Head) (m : Matrix) → Held s m → howMany (standsFor m .things) ≤ 48
 few s m h = rw (population s m h, ← (h .things .idRoom)) (taken-le (m .things .ids))
 
 -- ---- the papers' matrix
 
 -- at most one more thing than before; and no more than before
-create-many : (x : ℕ) (t : ThingType) (m : State) → howMany (papers .create x t m) ≤ suc (howMany m)
-unfolding howMany papers nowIs
-create-many x t m = count-change (λ a. isSome (m .typeOf a)) _ x (λ a n. rw (eqb-not a x n)) 65535
+create-many : (x : ℕ) (t : ThingType) (m : Population) → howMany (born x t m) ≤ suc (howMany m)
+unfolding howMany born nowHas nowIs
+create-many x t m = count-change (λ a. isSome (m .thing a)) _ x (λ a n. rw (eqb-not a x n)) 65535
 
-destroy-many : (x : ℕ) (m : State) → howMany (papers .destroy x m) ≤ howMany m
-unfolding howMany papers nowIs isSome
+destroy-many : (x : ℕ) (m : Population) → howMany (gone x m) ≤ howMany m
+unfolding howMany gone nowHas nowIs isSome
 destroy-many x m = count-mono 65535 _ _ (λ a. go (eqb a x) a)
   where
-    go : (b : Bool) (a : ℕ) → T (isSome (cond b none (m .typeOf a))) → T (isSome (m .typeOf a))
+    go : (b : Bool) (a : ℕ) → T (isSome (cond b none (m .thing a))) → T (isSome (m .thing a))
     go true a t = absurd t
     go false a t = t
 
-abbrev Few : Outcome State → Type 0
-Few (done m) = howMany m ≤ 48
-Few (refused k) = Unit {0}
+abbrev Few : State → Type 0
+Few m = howMany (m .things) ≤ 48
 
-unless-few : (f : Fault) (o : Outcome State) → (T (passes f) → Few o) → Few (unlessFault f o)
-unfolding unlessFault passes
-unless-few none o h = h tt
-unless-few (some k) o h = tt
-
-then-few : (o : Outcome State) (f : State → Outcome State) → Few o → ((m : State) → howMany m ≤ 48 → Few (f m)) → Few (andThen o f)
-unfolding andThen
-then-few (done m) f ok h = h m ok
-then-few (refused k) f ok h = tt
-
-after-few : (m : State) (o : Outcome State) → howMany m ≤ 48 → Few o → howMany (after m o) ≤ 48
-unfolding after
-after-few m (done n) h ok = ok
-after-few m (refused k) h ok = h
-
-full-few : (m : State) → T (not (papers .full m)) → howMany m < 48
+full-few : (m : State) → T (not (papers .full m)) → howMany (m .things) < 48
 unfolding papers
-full-few m t = nleb→lt 48 (howMany m) t
+full-few m t = nleb→lt 48 (howMany (m .things)) t
 
-act-few : (c : Code) (r : Right) (x y : ℕ) (t : ThingType) (m : State) → howMany m ≤ 48 → Few (act papers c r x y t m)
-unfolding act papers howMany
-act-few Enter r x y t m h = h
-act-few Delete r x y t m h = h
-act-few Create r x y t m h =
-    unless-few _ (done (papers .create x t m)) (λ p. omega (arith, create-many x t m, full-few m (must-pass _ _ (then-pass _ _ p))))
-act-few Destroy r x y t m h = unless-few _ (done (papers .destroy x m)) (λ p. omega (arith, destroy-many x m))
+act-few : (p : ℕ) (c : Code) (r : Right) (x y : ℕ) (t : ThingType) (m : State) → Few m → IfDone Few (act papers p c r x y t m)
+unfolding act papers
+act-few i Enter r x y t m h = is-done Few _ h
+act-few i Delete r x y t m h = is-done Few _ h
+act-few i Create r x y t m h =
+    unless-done Few _ (papers .create x t m) (λ p. omega (arith, create-many x t (m .things), full-few m (must-pass _ _ (then-pass _ _ p))))
+act-few i Destroy r x y t m h = unless-done Few _ (papers .destroy x m) (λ p. omega (arith, destroy-many x (m .things)))
 
-all-few : (types : List ThingType) (ids : List ℕ) (os : List Operation) (m : State) → howMany m ≤ 48 → Few (operateAll papers types ids os m)
-unfolding operateAll operate
-all-few types ids [] m h = h
-all-few types ids (o ∷ os) m h = then-few (operate papers types ids o m) _ (act-few (o .code) _ _ _ _ m h) (all-few types ids os)
-
-command-few : (m : State) (ids : List ℕ) (c : Option Command) → howMany m ≤ 48 → Few (carryOutIf papers m ids c)
-unfolding carryOutIf carryOut
-command-few m ids none h = tt
-command-few m ids (some c) h = unless-few _ (operateAll papers _ ids _ m) (λ p. all-few _ ids _ m h)
-
-pub at-most-kept : (s : Scheme) (m : State) (q : Request) → howMany m ≤ 48 → howMany (after m (step papers s m q)) ≤ 48
-unfolding step
-at-most-kept s m q h = after-few m _ h (command-few m (q .ids) (getElem? (commandsOf s) (q .command)) h)
+pub at-most-kept : (s : Scheme) (m : State) (q : Request) → howMany (m .things) ≤ 48 → howMany (after m (step papers s m q) .things) ≤ 48
+at-most-kept s m q h = step-keeps Few papers act-few s m q h
 
 pub at-most-48 : AtMost48
 at-most-48 = record { inMemory = λ s m t. few (s .head) m (held (s .head) m t); kept = at-most-kept }

@@ -10,19 +10,24 @@ use native.Mathlib.Omega.{arith}
 use lib.Dec.{T, eqb, eqb→eq, eqb-refl}
 use lib.ListN.{length, getD, set, length-set}
 use lib.Seq.{getD-set-same, getD-set-other}
-use Rattle.model.specs.Check.{isSome}
-use Rattle.model.specs.Papers.{State, changeCell}
-use Rattle.model.specs.Seats.{Matrix, known, seat, place, cell, change, standsFor}
+use Rattle.laws.specs.Check.{isSome}
+use Rattle.model.specs.Request.{Thing}
+use Rattle.model.specs.Papers.{Population, State, changeCell}
+use Rattle.model.specs.Seats.{Matrix, known, seat, thingIn, paperThings, place, cell, change, standsFor}
 use Rattle.model.specs.Accepted.{standing}
 use Rattle.model.specs.declared.Head.{Head}
 use Rattle.model.specs.declared.Things.{Things}
-use Rattle.model.proofs.Bools.{is-true, from-true, and-left, and-right, and-both, not-both, eqb-not}
+use Rattle.laws.proofs.Bools.{is-true, from-true, and-left, and-right, and-both, not-both, eqb-not}
 use Rattle.model.proofs.Held.{Held}
 use Rattle.model.proofs.Stands.{Cell}
-use Rattle.model.proofs.Find.{known-nonzero, seat-is, some-known, some-type, seat-lt}
+use Rattle.model.proofs.Find.{known-nonzero, seat-is, some-known, some-thing, seat-lt}
+use Rattle.model.specs.Scheme.{noType}
 
-pub state-eq : (p q : State) → ((x : ℕ) → p .typeOf x ≡ q .typeOf x) → ((x y : ℕ) → p .rights x y ≡ q .rights x y) → p ≡ q
-state-eq p q f g = λ i. record { typeOf = λ x. f x i; rights = λ x y. g x y i }
+pub things-eq : (p q : Population) → ((x : ℕ) → p .thing x ≡ q .thing x) → p ≡ q
+things-eq p q f = λ i. record { thing = λ x. f x i }
+
+pub state-eq : (p q : State) → p .things ≡ q .things → ((x y : ℕ) → p .rights x y ≡ q .rights x y) → p ≡ q
+state-eq p q e g = λ i. record { things = e i; rights = λ x y. g x y i }
 
 -- a place after a store is the one stored to, or another
 pub stored : {A : Type 0} (P : A → Type 0) (l : List A) (p : ℕ) (a : A) (i : ℕ) (d : A) → p < length l →
@@ -43,19 +48,19 @@ module _ (s : Head) (m : Matrix) (x y : ℕ) (c : Cell s (standsFor m) x y) wher
   th = m .things
 
   pub cell-row : T (known th x)
-  unfolding standsFor isSome
+  unfolding standsFor paperThings isSome
   cell-row = some-known th x (rw (c .rowIs) tt)
 
   pub cell-column : T (known th y)
-  unfolding standsFor
+  unfolding standsFor paperThings
   cell-column = some-known th y (c .column)
 
   cell-stands : T (standing s th (seat th x) (seat th y))
-  unfolding standsFor standing
-  cell-stands = rw (
+  unfolding standsFor paperThings standing thingIn
+  cell-stands = let type : getD (th .types) (seat th x) noType ≡ c .row .type = ap (λ (t : Thing). t .type) (some-thing th x (c .row) (c .rowIs)) in rw (
     seat-is th x cell-row,
     seat-is th y cell-column,
-    some-type th x (c .row) (c .rowIs),
+    type,
     eqb-not x 0 (known-nonzero th x cell-row),
     eqb-not y 0 (known-nonzero th y cell-column),
   ) (c .subject)
@@ -99,9 +104,9 @@ module _ (s : Head) (m : Matrix) (x y : ℕ) (c : Cell s (standsFor m) x y) wher
             };
           }
 
-      pub change-stands : standsFor (change f x y m) ≡ record { typeOf = standsFor m .typeOf; rights = changeCell f x y (standsFor m .rights) }
+      pub change-stands : standsFor (change f x y m) ≡ record { things = standsFor m .things; rights = changeCell f x y (standsFor m .rights) }
       unfolding change standsFor cell changeCell
-      change-stands = state-eq _ _ (λ a. refl) (λ a b. go a b (eqb a x && eqb b y) refl)
+      change-stands = state-eq _ _ refl (λ a b. go a b (eqb a x && eqb b y) refl)
         where
           go : (a b : ℕ) (e : Bool) → (eqb a x && eqb b y) ≡ e →
               standsFor (change f x y m) .rights a b ≡ cond e (f (standsFor m .rights a b)) (standsFor m .rights a b)

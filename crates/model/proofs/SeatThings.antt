@@ -1,6 +1,6 @@
 -- Create and destroy among the seats: both put something at one seat and leave its cells empty, and stand for what the papers do.
 -- Assumes nothing.
-use Prim.Native.Nat.{ℕ, zero, suc, _+_, _*_, _/_, _%_, _^_, _≤_, _<_}
+use Prim.Native.Nat.{ℕ, zero, suc, _+_, _*_, _/_, _%_, _^_, _<_}
 use mathlib.Core.Path.{_≡_, refl, sym, ap, _∙_}
 use mathlib.Core.Logic.{_≢_}
 use mathlib.Core.Bool.{Bool, true, false, not, cond, _&&_, _||_}
@@ -8,22 +8,25 @@ use mathlib.Core.Option.{Option, none, some}
 use mathlib.Core.List.{List, [], _∷_}
 use native.Mathlib.Nat.{suc-add, add-suc, add-zero, zero-add}
 use native.Mathlib.Omega.{arith}
-use lib.Dec.{T, eqb, eqb→eq, eqb-refl, leb→le, lit≤, not-T}
-use lib.ListN.{length, getD, set, length-set}
-use lib.Seq.{getD-set-other, ext-getD}
+use lib.Dec.{T, eqb, eqb→eq, eqb-refl, leb→le, not-T}
+use lib.ListN.{length, getD, length-set}
+use lib.Seq.{getD-set-same, getD-set-other, ext-getD}
 use lib.Pow.{pow-pos}
 use borrow.Author.Tests.{eqb-true, eqb-false}
 use Rattle.rights.specs.declared.ThingType.{ThingType}
-use Rattle.model.specs.Request.{isId}
-use Rattle.model.specs.Papers.{nowIs, emptied, papers}
-use Rattle.model.specs.Seats.{Matrix, among, known, seat, thingAt, place, cell, putThing, blank, add, remove, standsFor, noType}
-use Rattle.model.specs.Accepted.{standing}
+use Rattle.model.specs.Request.{Thing, ofType, isId}
+use Rattle.model.specs.Papers.{mayCreate, nowIs, nowHas, born, gone, emptied, papers}
+use Rattle.model.specs.Seats.{Matrix, among, known, seat, thingIn, thingAt, mayTake, paperThings, place, cell, putThing, blank, add, remove, standsFor}
+use Rattle.model.specs.Accepted.{zeroThing, acceptedSeat, standing}
 use Rattle.model.specs.declared.Head.{Head}
 use Rattle.model.specs.declared.Things.{Things}
-use Rattle.model.proofs.Bools.{is-true, is-false, and-left, and-right, eqb-not}
+use Rattle.laws.proofs.Bools.{is-true, is-false, and-left, and-right, eqb-not}
 use Rattle.model.proofs.Held.{HeldThings, HeldCells, Held}
-use Rattle.model.proofs.Find.{find-lt, find-is, among-other, find-other, known-nonzero, seat-is, none-known, seat-lt, known-at, seat-at}
-use Rattle.model.proofs.SeatChange.{state-eq, stored, cond-when}
+use Rattle.model.proofs.Stands.{fresh}
+use Rattle.model.proofs.Find.{is-known, find-lt, find-is, among-other, find-other, known-nonzero, seat-is, none-known, seat-lt, known-at, seat-at}
+use Rattle.model.proofs.HeldLaws.{seat-ok}
+use Rattle.model.proofs.SeatChange.{things-eq, state-eq, stored, cond-when}
+use Rattle.model.specs.Scheme.{noType}
 
 -- ---- blank
 
@@ -53,41 +56,50 @@ blank-at p l i j lj =
 
 -- ---- what is held
 
-module _ (s : Head) (th : Things) (p y : ℕ) (t : ThingType) (lp : p < 48) (ok : HeldThings s th) where
+-- what sits at a seat after a put: all that the proofs need to know of the arrays
+in-other : (th : Things) (p y : ℕ) (t : Thing) (i : ℕ) → i ≢ p → thingIn (putThing p y t th) i ≡ thingIn th i
+unfolding thingIn putThing
+in-other th p y t i n = rw (getD-set-other (th .types) p i (t .type) noType n)
+
+in-here : (s : Head) (th : Things) (p y : ℕ) (t : Thing) → p < 48 → HeldThings s th → thingIn (putThing p y t th) p ≡ t
+unfolding thingIn putThing
+in-here s th p y t lp ok = rw (getD-set-same (th .types) p (t .type) noType (rw (ok .typeRoom) lp))
+
+module _ (s : Head) (th : Things) (p y : ℕ) (t : Thing) (lp : p < 48) (ok : HeldThings s th) where
   -- a seat after a put is the one put to, or another
-  put-at : (P : ℕ → ThingType → Type 0) (i : ℕ) → (i ≡ p → P y t) → (i ≢ p → P (getD (th .ids) i 0) (getD (th .types) i noType)) →
-      P (getD (putThing p y t th .ids) i 0) (getD (putThing p y t th .types) i noType)
+  put-at : (P : ℕ → Thing → Type 0) (i : ℕ) → (i ≡ p → P y t) → (i ≢ p → P (getD (th .ids) i 0) (thingIn th i)) →
+      P (getD (putThing p y t th .ids) i 0) (thingIn (putThing p y t th) i)
   unfolding putThing
   put-at P i f g =
       let li : p < length (th .ids) = rw (ok .idRoom) lp in
-      let lt : p < length (th .types) = rw (ok .typeRoom) lp in
-      stored (λ v. P v (getD (set (th .types) p t) i noType)) (th .ids) p y i 0 li
-      (λ e. stored (P y) (th .types) p t i noType lt f (λ ne. absurd (ne e)))
-      (λ ne. stored (P (getD (th .ids) i 0)) (th .types) p t i noType lt (λ e. absurd (ne e)) g)
+      stored (λ v. P v (thingIn (putThing p y t th) i)) (th .ids) p y i 0 li
+      (λ e. rw (e, in-here s th p y t lp ok) (f e)) (λ ne. rw (in-other th p y t i ne) (g ne))
 
-  put-here : (P : ℕ → ThingType → Type 0) → P y t → P (getD (putThing p y t th .ids) p 0) (getD (putThing p y t th .types) p noType)
+  put-here : (P : ℕ → Thing → Type 0) → P y t → P (getD (putThing p y t th .ids) p 0) (thingIn (putThing p y t th) p)
   put-here P h = put-at P p (λ e. h) (λ ne. absurd (ne refl))
 
-  put-things : y ≤ 65535 → (y ≢ 0 → t .0 < s .types) → (y ≡ 0 → t .0 ≡ 0) → (y ≢ 0 → (j : ℕ) → j < 48 → getD (th .ids) j 0 ≢ y) →
-      HeldThings s (putThing p y t th)
+  -- a put changes no other seat's test
+  same-seat : (v : ℕ) (w : Thing) → T (acceptedSeat s th v w) → T (acceptedSeat s (putThing p y t th) v w)
+  unfolding acceptedSeat
+  same-seat v w k = k
+
+  put-things : T (acceptedSeat s th y t) → (y ≢ 0 → (j : ℕ) → j < 48 → getD (th .ids) j 0 ≢ y) → HeldThings s (putThing p y t th)
   unfolding putThing
-  put-things small typed free new = record {
+  put-things fits new = record {
     idRoom = simp length-set (ok .idRoom);
     typeRoom = simp length-set (ok .typeRoom);
     apart = λ i j li lj. put-at (λ v w. v ≢ 0 → v ≡ getD (putThing p y t th .ids) j 0 → i ≡ j) i
         (λ ei nz. put-at (λ v w. y ≡ v → i ≡ j) j (λ ej e. omega arith) (λ ej e. absurd (new nz j lj (sym e))))
         (λ ei nz. put-at (λ v w. getD (th .ids) i 0 ≡ v → i ≡ j) j (λ ej e. absurd (new (λ z. nz (e ∙ z)) i li e)) (λ ej e. ok .apart i j li lj nz e));
-    small = λ i. put-at (λ v w. v ≤ 65535) i (λ e. small) (λ ne. ok .small i);
-    typed = λ i. put-at (λ v w. v ≢ 0 → w .0 < s .types) i (λ e. typed) (λ ne. ok .typed i);
-    free = λ i. put-at (λ v w. v ≡ 0 → w .0 ≡ 0) i (λ e. free) (λ ne. ok .free i);
+    seat = λ i l. put-at (λ v w. T (acceptedSeat s (putThing p y t th) v w)) i (λ e. same-seat y t fits) (λ ne. same-seat _ _ (ok .seat i l));
   }
 
-standing-other : (s : Head) (th : Things) (p y : ℕ) (t : ThingType) (i j : ℕ) → i ≢ p → j ≢ p → standing s (putThing p y t th) i j ≡ standing s th i j
+standing-other : (s : Head) (th : Things) (p y : ℕ) (t : Thing) (i j : ℕ) → i ≢ p → j ≢ p → standing s (putThing p y t th) i j ≡ standing s th i j
 unfolding standing putThing
 standing-other s th p y t i j ni nj =
-    rw (getD-set-other (th .ids) p i y 0 ni, getD-set-other (th .ids) p j y 0 nj, getD-set-other (th .types) p i t noType ni)
+    rw (getD-set-other (th .ids) p i y 0 ni, getD-set-other (th .ids) p j y 0 nj, getD-set-other (th .types) p i (t .type) noType ni)
 
-put-cells : (s : Head) (th : Things) (l : List ℕ) (p y : ℕ) (t : ThingType) → HeldCells s th l → HeldCells s (putThing p y t th) (blank p 0 l)
+put-cells : (s : Head) (th : Things) (l : List ℕ) (p y : ℕ) (t : Thing) → HeldCells s th l → HeldCells s (putThing p y t th) (blank p 0 l)
 put-cells s th l p y t ok =
     record {
       room = length-blank p 0 l ∙ ok .room;
@@ -129,10 +141,10 @@ free-blank s th l p ok e =
 
 -- ---- what it stands for: y is put where another sat, and of these two one is x and the other is nobody
 
-unfoldable put : ℕ → ℕ → ThingType → Matrix → Matrix
+unfoldable put : ℕ → ℕ → Thing → Matrix → Matrix
 put p y t m = record { things = putThing p y t (m .things); cells = blank p 0 (m .cells) }
 
-module _ (s : Head) (m : Matrix) (p y : ℕ) (t : ThingType) (x : ℕ)
+module _ (s : Head) (m : Matrix) (p y : ℕ) (t : Thing) (x : ℕ)
     (comes : (a : ℕ) → a ≢ 0 → a ≢ x → y ≢ a) (goes : (a : ℕ) → a ≢ 0 → a ≢ x → getD (m .things .ids) p 0 ≢ a) where
   abbrev then : Things
   then = putThing p y t (m .things)
@@ -147,9 +159,9 @@ module _ (s : Head) (m : Matrix) (p y : ℕ) (t : ThingType) (x : ℕ)
   seat-other a n h = let nz = known-nonzero (m .things) a h in find-other (m .things .ids) p y a (comes a nz n) (goes a nz n)
 
   thing-other : (a : ℕ) → a ≢ x → thingAt then a ≡ thingAt (m .things) a
-  unfolding thingAt putThing
+  unfolding thingAt
   thing-other a n = rw (known-other a n) (cond-when (known (m .things) a) none (λ h. rw (seat-other a n h) (ap some
-      (getD-set-other (m .things .types) p _ t noType (λ e. goes a (known-nonzero (m .things) a h) n (rw e at (seat-is (m .things) a h)))))))
+      (in-other (m .things) p y t _ (λ e. goes a (known-nonzero (m .things) a h) n (rw e at (seat-is (m .things) a h)))))))
 
   module _ (lp : p < 48) (ok : HeldThings s (m .things)) (held : HeldThings s then) (there : T (known then x) → seat then x ≡ p) where
     seat-put : (a : ℕ) → T (known then a) → eqb (seat then a) p ≡ eqb a x
@@ -178,16 +190,21 @@ module _ (s : Head) (m : Matrix) (p y : ℕ) (t : ThingType) (x : ℕ)
         go false false f g = rw (known-other a (f refl), known-other b (g refl)) (cond-when (known (m .things) a && known (m .things) b) 0 (λ h.
             rw (seat-other a (f refl) (search and-left), seat-other b (g refl) (search and-right))))
 
-    put-stands : (now : Option ThingType) → thingAt then x ≡ now →
-        standsFor (put p y t m) ≡ record { typeOf = nowIs x now (standsFor m .typeOf); rights = emptied x (standsFor m .rights) }
-    unfolding standsFor put nowIs
-    put-stands now e = state-eq _ _ (λ a. go a (eqb a x) refl) put-rights
+    put-stands : (now : Option Thing) → thingAt then x ≡ now →
+        standsFor (put p y t m) ≡ record { things = nowHas x now (standsFor m .things); rights = emptied x (standsFor m .rights) }
+    unfolding standsFor paperThings put nowHas nowIs
+    put-stands now e = state-eq _ _ (things-eq _ _ (λ a. go a (eqb a x) refl)) put-rights
       where
         go : (a : ℕ) (b : Bool) → eqb a x ≡ b → thingAt then a ≡ cond b now (thingAt (m .things) a)
         go a true q = let z : a ≡ x = eqb-true a x q in rw z e
         go a false q = thing-other a (eqb-false a x q)
 
 -- ---- create: x takes a free seat
+
+-- memory and papers agree on what may be created
+pub may-law : (s : Head) (th : Things) → HeldThings s th → (x : ℕ) → mayTake th x ≡ mayCreate (paperThings th) x
+unfolding mayTake mayCreate paperThings
+may-law s th ok x = rw (is-known th x)
 
 module _ (s : Head) (m : Matrix) (ok : Held s m) (x : ℕ) (t : ThingType) (id : T (isId x)) (typed : t .0 < s .types)
     (new : thingAt (m .things) x ≡ none) (free : T (among (m .things .ids) 0)) where
@@ -206,35 +223,43 @@ module _ (s : Head) (m : Matrix) (ok : Held s m) (x : ℕ) (t : ThingType) (id :
   unfolding isId
   id-nonzero e = rw e at id
 
-  add-put : add x t m ≡ put at0 x t m
-  unfolding add put
-  add-put = rw (free-blank s (m .things) (m .cells) at0 (ok .cells) at0-free)
+  put-free : put at0 x (ofType t) m ≡ record { things = putThing at0 x (ofType t) (m .things); cells = m .cells }
+  unfolding put
+  put-free = rw (free-blank s (m .things) (m .cells) at0 (ok .cells) at0-free)
 
-  put-new : Held s (put at0 x t m)
+  put-new : Held s (put at0 x (ofType t) m)
   unfolding put isId
   put-new = record {
-    things = put-things s (m .things) at0 x t at0-lt (ok .things) (leb→le x 65535 (search and-right)) (λ nz. typed) (λ e. absurd (id-nonzero e))
+    things = put-things s (m .things) at0 x (ofType t) at0-lt (ok .things) (seat-ok s (m .things) x (ofType t) id-nonzero (leb→le x 65535 (search and-right)) typed)
         (λ nz j lj e. none-known (m .things) x new (rw e at (known-at s (m .things) (ok .things) j lj (λ z. nz (sym e ∙ z)))));
-    cells = put-cells s (m .things) (m .cells) at0 x t (ok .cells);
+    cells = put-cells s (m .things) (m .cells) at0 x (ofType t) (ok .cells);
   }
 
-  put-new-stands : standsFor (put at0 x t m) ≡ papers .create x t (standsFor m)
-  unfolding papers thingAt put
+  put-new-stands : standsFor (put at0 x (ofType t) m) ≡ record { things = nowHas x (some (ofType t)) (standsFor m .things); rights = emptied x (standsFor m .rights) }
+  unfolding thingAt put
   put-new-stands =
-      let th = putThing at0 x t (m .things) in
+      let th = putThing at0 x (ofType t) (m .things) in
       let held : HeldThings s th = put-new .things in
-      let ids : getD (th .ids) at0 0 ≡ x = put-here s (m .things) at0 x t at0-lt (ok .things) (λ v w. v ≡ x) refl in
-      let types : getD (th .types) at0 noType ≡ t = put-here s (m .things) at0 x t at0-lt (ok .things) (λ v w. w ≡ t) refl in
+      let ids : getD (th .ids) at0 0 ≡ x = put-here s (m .things) at0 x (ofType t) at0-lt (ok .things) (λ v w. v ≡ x) refl in
+      let is : thingIn th at0 ≡ ofType t = put-here s (m .things) at0 x (ofType t) at0-lt (ok .things) (λ v w. w ≡ ofType t) refl in
       let there : seat th x ≡ at0 = rw ids at (seat-at s th held at0 at0-lt (rw ids id-nonzero)) in
       let here : T (known th x) = rw ids at (known-at s th held at0 at0-lt (rw ids id-nonzero)) in
-      put-stands s m at0 x t x (λ a nz ne e. ne (sym e)) (λ a nz ne e. nz (sym e ∙ at0-free)) at0-lt (ok .things) held (λ h. there) (some t)
-      (rw (is-true (known th x) here, there, types))
+      put-stands s m at0 x (ofType t) x (λ a nz ne e. ne (sym e)) (λ a nz ne e. nz (sym e ∙ at0-free)) at0-lt (ok .things) held (λ h. there) (some (ofType t))
+      (rw (is-true (known th x) here, there, is))
+
+module _ (s : Head) (m : Matrix) (ok : Held s m) (x : ℕ) (t : ThingType) (id : T (isId x)) (typed : t .0 < s .types)
+    (may : T (mayCreate (paperThings (m .things)) x)) (free : T (among (m .things .ids) 0)) where
+  new : thingAt (m .things) x ≡ none
+  unfolding paperThings
+  new = fresh (paperThings (m .things)) x may
 
   pub add-held : Held s (add x t m)
-  add-held = rw add-put put-new
+  unfolding add
+  add-held = rw (put-free s m ok x t id typed new free) at (put-new s m ok x t id typed new free)
 
   pub add-stands : standsFor (add x t m) ≡ papers .create x t (standsFor m)
-  add-stands = rw add-put put-new-stands
+  unfolding add papers born
+  add-stands = rw (put-free s m ok x t id typed new free) at (put-new-stands s m ok x t id typed new free)
 
 -- ---- destroy: nobody takes the seat of x
 
@@ -245,24 +270,28 @@ module _ (s : Head) (m : Matrix) (ok : Held s m) (x : ℕ) (there : T (known (m 
   at-lt : at < 48
   at-lt = seat-lt s (m .things) (ok .things) x there
 
+  free-seat : T (acceptedSeat s (m .things) 0 (ofType noType))
+  unfolding acceptedSeat zeroThing
+  free-seat = tt
+
   pub remove-held : Held s (remove x m)
   unfolding remove
   remove-held = record {
-    things = put-things s (m .things) at 0 noType at-lt (ok .things) (lit≤ tt) (λ nz. absurd (nz refl)) (λ e. refl) (λ nz. absurd (nz refl));
-    cells = put-cells s (m .things) (m .cells) at 0 noType (ok .cells);
+    things = put-things s (m .things) at 0 (ofType noType) at-lt (ok .things) free-seat (λ nz. absurd (nz refl));
+    cells = put-cells s (m .things) (m .cells) at 0 (ofType noType) (ok .cells);
   }
 
-  gone : T (known (putThing at 0 noType (m .things)) x) → ⊥
+  not-there : T (known (putThing at 0 (ofType noType) (m .things)) x) → ⊥
   unfolding remove
-  gone h =
-      let th = putThing at 0 noType (m .things) in
+  not-there h =
+      let th = putThing at 0 (ofType noType) (m .things) in
       let nz : x ≢ 0 = known-nonzero th x h in
-      put-at s (m .things) at 0 noType at-lt (ok .things) (λ v w. v ≡ x → ⊥) (seat th x) (λ e z. nz (sym z))
+      put-at s (m .things) at 0 (ofType noType) at-lt (ok .things) (λ v w. v ≡ x → ⊥) (seat th x) (λ e z. nz (sym z))
       (λ ne z. ne (ok .things .apart _ at (seat-lt s th (remove-held .things) x h) at-lt (rw z nz) (z ∙ sym (seat-is (m .things) x there))))
       (seat-is th x h)
 
   pub remove-stands : standsFor (remove x m) ≡ papers .destroy x (standsFor m)
-  unfolding papers thingAt put remove
+  unfolding papers gone thingAt put remove
   remove-stands =
-      put-stands s m at 0 noType x (λ a nz ne e. nz (sym e)) (λ a nz ne e. ne (sym e ∙ seat-is (m .things) x there)) at-lt (ok .things)
-      (remove-held .things) (λ h. absurd (gone h)) none (rw (is-false (known (putThing at 0 noType (m .things)) x) gone))
+      put-stands s m at 0 (ofType noType) x (λ a nz ne e. nz (sym e)) (λ a nz ne e. ne (sym e ∙ seat-is (m .things) x there)) at-lt (ok .things)
+      (remove-held .things) (λ h. absurd (not-there h)) none (rw (is-false (known (putThing at 0 (ofType noType) (m .things)) x) not-there))

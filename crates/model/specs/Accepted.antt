@@ -1,17 +1,19 @@
 -- What is accepted: a scheme whose fields pass the outline's checks (count 4, range 5, form 6), taken in field order, with zeros in all that is
 -- unused; and a matrix of it. Nothing else may be handed to an entry point (27). Assumes nothing.
-use Prim.Native.Nat.{ℕ, suc, _^_, _/_, _%_}
+use Prim.Native.Nat.{ℕ, zero, suc, _^_, _/_, _%_}
 use mathlib.Core.Bool.{Bool, true, false, not, cond, _&&_, _||_}
 use mathlib.Core.Option.{none}
 use mathlib.Core.List.{List, [], _∷_}
 use lib.Dec.{eqb, leb, ltb}
-use lib.ListN.{length, drop, getD}
+use lib.ListN.{length, getD}
 use Rattle.rights.specs.Sets.{within}
+use Rattle.rights.specs.Numberings.{rightBelow, typeBelow, parameterBelow, zeroRight, zeroType, zeroParameter}
 use Rattle.rights.specs.declared.ThingType.{ThingType}
 use Rattle.rights.specs.declared.Parameter.{Parameter}
-use Rattle.model.specs.Check.{Fault, _orElse_, must, passes, any, all}
-use Rattle.model.specs.Scheme.{parametersOf, testsOf, operationsOf, commandsOf, isSubject, typeAt, creates, destroys, names}
-use Rattle.model.specs.Seats.{Matrix, among, noType}
+use Rattle.laws.specs.Check.{Fault, _orElse_, must, passes, all, between, firstFault, padded}
+use Rattle.model.specs.Scheme.{noType, parametersOf, testsOf, operationsOf, commandsOf, isSubject, typeAt, creatable, destroyable}
+use Rattle.model.specs.Request.{Thing}
+use Rattle.model.specs.Seats.{Matrix, among, thingIn}
 use Rattle.model.specs.declared.Test.{Test}
 use Rattle.model.specs.declared.Code.{Code}
 use Rattle.model.specs.declared.Code.the-variants.{Enter, Delete, Create, Destroy}
@@ -20,14 +22,6 @@ use Rattle.model.specs.declared.Command.{Command}
 use Rattle.model.specs.declared.Head.{Head}
 use Rattle.model.specs.declared.Scheme.{Scheme}
 use Rattle.model.specs.declared.Things.{Things}
-
--- from low to high
-unfoldable pub between : ℕ → ℕ → ℕ → Bool
-between low high x = leb low x && leb x high
-
-unfoldable pub firstFault : {A : Type 0} → (A → Fault) → List A → Fault
-firstFault f [] = none
-firstFault f (x ∷ xs) = f x orElse firstFault f xs
 
 -- ---- a scheme's head: n (4), m (4), the subject types (6), the number of commands (4)
 unfoldable pub headFault : Head → Fault
@@ -39,17 +33,17 @@ headFault h =
 
 -- ---- a command: its parameters' number (4) and types (5), its tests, its operations
 unfoldable pub typeRange : Head → ThingType → Fault
-typeRange h t = must (ltb (t .0) (h .types)) 5
+typeRange h t = must (typeBelow t (h .types)) 5
 
 -- a row is one of the parameters (5), and has a subject type (6)
 unfoldable pub rowFault : Head → List ThingType → Parameter → Fault
-rowFault h types row = must (ltb (row .0) (length types)) 5 orElse must (isSubject h (typeAt types row)) 6
+rowFault h types row = must (parameterBelow row (length types)) 5 orElse must (isSubject h (typeAt types row)) 6
 
 unfoldable pub testFault : Head → List ThingType → Test → Fault
 testFault h types t =
-    must (ltb (t .right .0) (h .rights)) 5
+    must (rightBelow (t .right) (h .rights)) 5
     orElse rowFault h types (t .row)
-    orElse must (ltb (t .column .0) (length types)) 5
+    orElse must (parameterBelow (t .column) (length types)) 5
 
 -- the three groups: creates come first, then enters and deletes, then destroys
 abbrev pub group : Code → ℕ
@@ -66,25 +60,24 @@ lastGroup (o ∷ before) = group (o .code)
 -- enter and delete: a right of the scheme, a row of a subject type, a column
 unfoldable pub changeFault : Head → List ThingType → Operation → Fault
 changeFault h types o =
-    must (ltb (o .right .0) (h .rights)) 5
+    must (rightBelow (o .right) (h .rights)) 5
     orElse rowFault h types (o .row)
-    orElse must (ltb (o .column .0) (length types)) 5
+    orElse must (parameterBelow (o .column) (length types)) 5
 
 -- create and destroy: right 0, a parameter (5) that passes, column 0
 unfoldable pub thingFault : List ThingType → Bool → Operation → Fault
 thingFault types fits o =
-    must (eqb (o .right .0) 0) 6
-    orElse must (ltb (o .row .0) (length types)) 5
+    must (zeroRight (o .right)) 6
+    orElse must (parameterBelow (o .row) (length types)) 5
     orElse must fits 6
-    orElse must (eqb (o .column .0) 0) 6
+    orElse must (zeroParameter (o .column)) 6
 
 -- a parameter created may not be tested, nor created before; one destroyed may not be destroyed before
 unfoldable pub codeFault : Head → List ThingType → List Test → List Operation → Operation → Code → Fault
 codeFault h types tests before o Enter = changeFault h types o
 codeFault h types tests before o Delete = changeFault h types o
-codeFault h types tests before o Create =
-    thingFault types (not (any (names (o .row .0)) tests) && not (any (creates (o .row .0)) before)) o
-codeFault h types tests before o Destroy = thingFault types (not (any (destroys (o .row .0)) before)) o
+codeFault h types tests before o Create = thingFault types (creatable tests before (o .row)) o
+codeFault h types tests before o Destroy = thingFault types (destroyable before (o .row)) o
 
 unfoldable pub operationFault : Head → List ThingType → List Test → List Operation → Operation → Fault
 operationFault h types tests before o =
@@ -98,18 +91,15 @@ operationsFault h types tests before (o ∷ os) =
 unfoldable pub commandFault : Head → Command → Fault
 commandFault h c =
     must (between 1 8 (c .parameters .count)) 4
-    orElse firstFault (typeRange h) (parametersOf c)
+    orElse firstFault (typeRange h) (parametersOf (c .parameters))
     orElse must (leb (c .tests .count) 16) 4
-    orElse firstFault (testFault h (parametersOf c)) (testsOf c)
+    orElse firstFault (testFault h (parametersOf (c .parameters))) (testsOf (c .tests))
     orElse must (between 1 32 (c .operations .count)) 4
-    orElse operationsFault h (parametersOf c) (testsOf c) [] (operationsOf c)
+    orElse operationsFault h (parametersOf (c .parameters)) (testsOf (c .tests)) [] (operationsOf (c .operations))
 
 -- ---- the arrays: as long as they are declared, with zeros behind the used places
-unfoldable pub zeroType : ThingType → Bool
-zeroType t = eqb (t .0) 0
-
 unfoldable pub zeroTest : Test → Bool
-zeroTest t = not (t .present) && eqb (t .right .0) 0 && eqb (t .row .0) 0 && eqb (t .column .0) 0
+zeroTest t = not (t .present) && zeroRight (t .right) && zeroParameter (t .row) && zeroParameter (t .column)
 
 abbrev pub isEnter : Code → Bool
 isEnter Enter = true
@@ -118,10 +108,7 @@ isEnter Create = false
 isEnter Destroy = false
 
 unfoldable pub zeroOperation : Operation → Bool
-zeroOperation o = isEnter (o .code) && eqb (o .right .0) 0 && eqb (o .row .0) 0 && eqb (o .column .0) 0
-
-unfoldable pub padded : {A : Type 0} → (A → Bool) → ℕ → ℕ → List A → Bool
-padded zero? many count list = eqb (length list) many && all zero? (drop count list)
+zeroOperation o = isEnter (o .code) && zeroRight (o .right) && zeroParameter (o .row) && zeroParameter (o .column)
 
 unfoldable pub paddedCommand : Command → Bool
 paddedCommand c =
@@ -148,16 +135,25 @@ unfoldable pub apart : List ℕ → Bool
 apart [] = true
 apart (x ∷ xs) = (eqb x 0 || not (among xs x)) && apart xs
 
--- an id from 1 to 65535 with a type of the scheme, or a free seat with type 0
-unfoldable pub acceptedSeats : Head → List ℕ → List ThingType → Bool
-acceptedSeats h [] [] = true
-acceptedSeats h [] (t ∷ ts) = false
-acceptedSeats h (x ∷ xs) [] = false
-acceptedSeats h (x ∷ xs) (t ∷ ts) =
-    cond (eqb x 0) (zeroType t) (leb x 65535 && ltb (t .0) (h .types)) && acceptedSeats h xs ts
+-- what sits at a free seat is at zero
+unfoldable pub zeroThing : Thing → Bool
+zeroThing t = zeroType (t .type)
+
+-- an id from 1 to 65535 with a type of the scheme, or a free seat
+unfoldable pub acceptedSeat : Head → Things → ℕ → Thing → Bool
+acceptedSeat h th x t = cond (eqb x 0) (zeroThing t) (leb x 65535 && typeBelow (t .type) (h .types))
+
+-- every number from i on passes, k of them
+unfoldable pub allFrom : (ℕ → Bool) → ℕ → ℕ → Bool
+allFrom f i zero = true
+allFrom f i (suc k) = f i && allFrom f (suc i) k
 
 unfoldable pub acceptedThings : Head → Things → Bool
-acceptedThings h th = eqb (length (th .ids)) 48 && apart (th .ids) && acceptedSeats h (th .ids) (th .types)
+acceptedThings h th =
+    eqb (length (th .ids)) 48
+    && eqb (length (th .types)) 48
+    && apart (th .ids)
+    && allFrom (λ i. acceptedSeat h th (getD (th .ids) i 0) (thingIn th i)) 0 48
 
 -- is there a cell at row seat i and column seat j?
 unfoldable pub standing : Head → Things → ℕ → ℕ → Bool

@@ -2,29 +2,33 @@
 -- Assumes nothing.
 use Prim.Native.Nat.{ℕ}
 use mathlib.Core.Bool.{Bool, true, false, _&&_}
-use mathlib.Core.List.{List, [], _∷_}
+use mathlib.Core.List.{List, [], _∷_, map}
 use lib.Dec.{eqb}
 use lib.ListN.{set, replicate}
-use Rattle.model.specs.Check.{all, isSome}
+use Rattle.laws.specs.Check.{all, isSome}
 use Rattle.model.specs.Request.{Request, View, run, answers}
-use Rattle.model.specs.Seats.{Matrix, noType}
-use Rattle.model.specs.Arrays.{type, test, operation, command, scheme}
+use Rattle.model.specs.Answers.{replyTo, replyBytes}
+use Rattle.model.specs.Seats.{Matrix}
+use Rattle.model.specs.Arrays.{test, operation, commandOf, schemeFrom}
 use Rattle.model.specs.declared.Code.the-variants.{Enter, Destroy}
 use Rattle.model.specs.declared.Command.{Command}
+use Rattle.model.specs.declared.Reply.{Reply}
 use Rattle.model.specs.declared.Scheme.{Scheme}
+use Rattle.model.specs.Scheme.{noType}
+use Rattle.rights.specs.Numberings.{type}
 
 -- ---- rights: 0 own, 1 sign, 2 retired, 3 loaded; types: 0 manager, 1 key, 2 robot
 
 -- retire(M manager, K key): if own in [M, K], enter retired in [K, K]
 abbrev pub retire : Command
-retire = command (type 0 ∷ type 1 ∷ []) (test true 0 0 1 ∷ []) (operation Enter 2 1 1 ∷ [])
+retire = commandOf (type 0 ∷ type 1 ∷ []) (test true 0 0 1 ∷ []) (operation Enter 2 1 1 ∷ [])
 
 -- load(K key, R robot): if sign in [K, R] and retired absent from [K, K], enter loaded in [K, R]
 abbrev pub load : Command
-load = command (type 1 ∷ type 2 ∷ []) (test true 1 0 1 ∷ test false 2 0 0 ∷ []) (operation Enter 3 0 1 ∷ [])
+load = commandOf (type 1 ∷ type 2 ∷ []) (test true 1 0 1 ∷ test false 2 0 0 ∷ []) (operation Enter 3 0 1 ∷ [])
 
 unfoldable pub keyScheme : Scheme
-keyScheme = scheme 4 3 3 (retire ∷ load ∷ [])
+keyScheme = schemeFrom 4 3 3 (retire ∷ load ∷ [])
 
 -- things: 5 manager, 9 key, 12 robot; cells: [5, 9] = 1, [9, 12] = 2
 unfoldable pub keyMatrix : Matrix
@@ -35,7 +39,7 @@ keyMatrix = record {
 
 -- a command that destroys two key parameters
 unfoldable pub twoDestroys : Scheme
-twoDestroys = scheme 4 3 3 (command (type 1 ∷ type 1 ∷ []) [] (operation Destroy 0 0 0 ∷ operation Destroy 0 1 0 ∷ []) ∷ [])
+twoDestroys = schemeFrom 4 3 3 (commandOf (type 1 ∷ type 1 ∷ []) [] (operation Destroy 0 0 0 ∷ operation Destroy 0 1 0 ∷ []) ∷ [])
 
 -- ---- a claim: these requests, from the key example's matrix, are answered so, and afterwards these cells hold so much and these things exist
 pub record Cell : Type 0 where
@@ -46,12 +50,16 @@ pub record Cell : Type 0 where
 pub record Claim : Type 0 where
   pub of : Scheme
   pub requests : List Request
-  pub numbers : List ℕ
+  pub replies : List Reply
   pub cells : List Cell
   pub things : List ℕ
 
 abbrev pub ask : ℕ → List ℕ → Request
 ask c ids = record { command = c; ids = ids }
+
+-- a reply with this number
+abbrev pub says : ℕ → Reply
+says k = record { number = k }
 
 abbrev pub is : ℕ → ℕ → ℕ → Cell
 is x y v = record { row = x; column = y; holds = v }
@@ -62,6 +70,13 @@ sameNumbers [] (y ∷ ys) = false
 sameNumbers (x ∷ xs) [] = false
 sameNumbers (x ∷ xs) (y ∷ ys) = eqb x y && sameNumbers xs ys
 
+-- replies are the same where their bytes are
+unfoldable pub sameReplies : List Reply → List Reply → Bool
+sameReplies [] [] = true
+sameReplies [] (y ∷ ys) = false
+sameReplies (x ∷ xs) [] = false
+sameReplies (x ∷ xs) (y ∷ ys) = sameNumbers (replyBytes x) (replyBytes y) && sameReplies xs ys
+
 -- is the claim true, if matrices are of this form?
 module _ {M : Type 0} (view : View M) where
   unfoldable pub cellIs : M → Cell → Bool
@@ -69,15 +84,15 @@ module _ {M : Type 0} (view : View M) where
 
   unfoldable pub isTrue : M → Claim → Bool
   isTrue m c =
-      sameNumbers (answers view (c .of) m (c .requests)) (c .numbers)
+      sameReplies (map replyTo (answers view (c .of) m (c .requests))) (c .replies)
       && all (cellIs (run view (c .of) m (c .requests))) (c .cells)
       && all (λ x. isSome (view .thing (run view (c .of) m (c .requests)) x)) (c .things)
 
 unfoldable pub starred : List Claim
 starred =
-    record { of = keyScheme; requests = ask 1 (9 ∷ 12 ∷ []) ∷ []; numbers = 0 ∷ []; cells = is 9 12 10 ∷ []; things = [] }
-    ∷ record { of = keyScheme; requests = ask 1 (9 ∷ 12 ∷ []) ∷ ask 0 (5 ∷ 9 ∷ []) ∷ []; numbers = 0 ∷ 0 ∷ []; cells = is 9 9 4 ∷ []; things = [] }
-    ∷ record { of = keyScheme; requests = ask 1 (9 ∷ 12 ∷ []) ∷ ask 0 (5 ∷ 9 ∷ []) ∷ ask 1 (9 ∷ 12 ∷ []) ∷ []; numbers = 0 ∷ 0 ∷ 14 ∷ []; cells = []; things = [] }
-    ∷ record { of = keyScheme; requests = ask 0 (9 ∷ 9 ∷ []) ∷ ask 0 (5 ∷ 8 ∷ []) ∷ ask 0 (5 ∷ []) ∷ ask 2 [] ∷ []; numbers = 13 ∷ 12 ∷ 11 ∷ 10 ∷ []; cells = is 5 9 1 ∷ is 9 12 2 ∷ []; things = [] }
-    ∷ record { of = twoDestroys; requests = ask 0 (9 ∷ 9 ∷ []) ∷ []; numbers = 17 ∷ []; cells = is 9 12 2 ∷ []; things = 9 ∷ [] }
+    record { of = keyScheme; requests = ask 1 (9 ∷ 12 ∷ []) ∷ []; replies = says 0 ∷ []; cells = is 9 12 10 ∷ []; things = [] }
+    ∷ record { of = keyScheme; requests = ask 1 (9 ∷ 12 ∷ []) ∷ ask 0 (5 ∷ 9 ∷ []) ∷ []; replies = says 0 ∷ says 0 ∷ []; cells = is 9 9 4 ∷ []; things = [] }
+    ∷ record { of = keyScheme; requests = ask 1 (9 ∷ 12 ∷ []) ∷ ask 0 (5 ∷ 9 ∷ []) ∷ ask 1 (9 ∷ 12 ∷ []) ∷ []; replies = says 0 ∷ says 0 ∷ says 14 ∷ []; cells = []; things = [] }
+    ∷ record { of = keyScheme; requests = ask 0 (9 ∷ 9 ∷ []) ∷ ask 0 (5 ∷ 8 ∷ []) ∷ ask 0 (5 ∷ []) ∷ ask 2 [] ∷ []; replies = says 13 ∷ says 12 ∷ says 11 ∷ says 10 ∷ []; cells = is 5 9 1 ∷ is 9 12 2 ∷ []; things = [] }
+    ∷ record { of = twoDestroys; requests = ask 0 (9 ∷ 9 ∷ []) ∷ []; replies = says 17 ∷ []; cells = is 9 12 2 ∷ []; things = 9 ∷ [] }
     ∷ []

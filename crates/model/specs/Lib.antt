@@ -1,11 +1,13 @@
 -- What a customer has to believe, in the outline's order. `Scheme`, `Request`, `Papers`: the model. `Seats`, `Arrays`: how it lies in memory.
 -- `Accepted`: what no reading refuses. `KeyExample`: the starred examples. `Promises`: what is proved of all this.
-pub mod Check
+-- `Translation`: a theorem by itself, of two schemes that do the same.
 pub mod Scheme
 pub mod Request
+pub mod Answers
 pub mod Papers
 pub mod Seats
 pub mod Arrays
 pub mod Accepted
 pub mod KeyExample
 pub mod Promises
+pub mod Translation

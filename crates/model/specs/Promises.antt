@@ -1,22 +1,25 @@
 -- What is promised of the model, each promise as one statement; the proofs stand in proofs/, under the same names.
 -- Assumes nothing.
-use Prim.Native.Nat.{ℕ, _≤_, _<_}
+use Prim.Native.Nat.{ℕ, _+_, _≤_, _<_}
 use mathlib.Core.Path.{_≡_}
 use mathlib.Core.Logic.{_≢_}
+use mathlib.Core.Bool.{Bool, true}
 use mathlib.Core.Option.{none, some}
 use mathlib.Core.List.{List, _∷_, _++_}
 use lib.Dec.{T}
 use lib.ListN.{length, getD}
+use Rattle.rights.specs.Numberings.{parameter}
 use Rattle.rights.specs.declared.ThingType.{ThingType}
-use Rattle.model.specs.Check.{all}
-use Rattle.model.specs.Scheme.{isNew}
-use Rattle.model.specs.Request.{Request, View, Outcome, done, refused, number, after, placeFault, placesFault, operate, operateAll, step, run, answers}
+use Rattle.laws.specs.Check.{all, between}
+use Rattle.model.specs.Scheme.{isNew, noType}
+use Rattle.model.specs.Request.{Request, View, Answer, Outcome, done, refused, answer, number, after, placeFault, placesFault, operate, operateAll, step, run, answers}
 use Rattle.model.specs.Papers.{State, papers, howMany}
-use Rattle.model.specs.Seats.{Matrix, seats, standsFor, noType}
+use Rattle.model.specs.Seats.{Matrix, seats, standsFor}
 use Rattle.model.specs.Accepted.{acceptedScheme, acceptedMatrix}
 use Rattle.model.specs.KeyExample.{starred, isTrue, keyMatrix}
 use Rattle.model.specs.declared.Operation.{Operation}
 use Rattle.model.specs.declared.Scheme.{Scheme}
+use Rattle.model.specs.declared.Refusal.{Refusal}
 
 -- an outcome in memory as an outcome of the papers
 unfoldable pub paperOutcome : Outcome Matrix → Outcome State
@@ -41,8 +44,8 @@ Kept = (s : Scheme) (m : Matrix) (q : Request) → T (acceptedScheme s) → T (a
 
 -- The number of things never exceeds 48: in no accepted memory, and in no papers' matrix after a request if not before.
 pub record AtMost48 : Type 0 where
-  pub inMemory : (s : Scheme) (m : Matrix) → T (acceptedMatrix (s .head) m) → howMany (standsFor m) ≤ 48
-  pub kept : (s : Scheme) (m : State) (q : Request) → howMany m ≤ 48 → howMany (after m (step papers s m q)) ≤ 48
+  pub inMemory : (s : Scheme) (m : Matrix) → T (acceptedMatrix (s .head) m) → howMany (standsFor m .things) ≤ 48
+  pub kept : (s : Scheme) (m : State) (q : Request) → howMany (m .things) ≤ 48 → howMany (after m (step papers s m q) .things) ≤ 48
 
 -- The starred examples that speak of requests, results and cells hold, in memory and in the papers' view.
 pub record Starred : Type 0 where
@@ -52,11 +55,20 @@ pub record Starred : Type 0 where
 -- What the outline says of the order of faults and of half-done commands, in any form of a matrix.
 pub record InOrder {M : Type 0} (view : View M) : Type 0 where
   -- The first place at fault is the answer: a fault at a place counts where every place before it passes.
-  pub firstPlace : (m : M) (os : List Operation) (ts : List ThingType) (ids : List ℕ) (i k : ℕ) → length ids ≡ length ts → i < length ts →
-      ((j : ℕ) → j < i → placeFault view m (isNew os j) (getD ts j noType) (getD ids j 0) ≡ none) →
-      placeFault view m (isNew os i) (getD ts i noType) (getD ids i 0) ≡ some k → placesFault view m os 0 ts ids ≡ some k
-  -- All or nothing: an operation that refuses, after others were carried out, refuses the whole with its number.
-  pub wholeRefused : (ts : List ThingType) (ids : List ℕ) (before : List Operation) (o : Operation) (later : List Operation) (m next : M) (k : ℕ) →
-      operateAll view ts ids before m ≡ done next → operate view ts ids o next ≡ refused k → operateAll view ts ids (before ++ o ∷ later) m ≡ refused k
+  pub firstPlace : (m : M) (os : List Operation) (ts : List ThingType) (ids : List ℕ) (i : ℕ) (r : Refusal) → length ids ≡ length ts → i < length ts →
+      ((j : ℕ) → j < i → placeFault view m (isNew os (parameter j)) (getD ts j noType) (getD ids j 0) ≡ none) →
+      placeFault view m (isNew os (parameter i)) (getD ts i noType) (getD ids i 0) ≡ some r → placesFault view m os 0 ts ids ≡ some r
+  -- All or nothing: an operation that refuses, after others were carried out, refuses the whole, with its number and place.
+  pub wholeRefused : (ts : List ThingType) (ids : List ℕ) (p : ℕ) (before : List Operation) (o : Operation) (later : List Operation) (m next : M) (r : Refusal) →
+      operateAll view ts ids p before m ≡ done next → operate view ts ids (p + length before) o next ≡ refused r →
+      operateAll view ts ids p (before ++ o ∷ later) m ≡ refused r
   -- A refused request has no effect at all.
-  pub noEffect : (m : M) (o : Outcome M) → number o ≢ 0 → after m o ≡ m
+  pub noEffect : (m : M) (o : Outcome M) → number (answer o) ≢ 0 → after m o ≡ m
+
+-- Every refusal of a request has one of the outline's numbers for requests, 10 to 17, in any form of a matrix.
+unfoldable pub tellsRequest : Answer → Bool
+tellsRequest none = true
+tellsRequest (some r) = between 10 17 (r .number)
+
+abbrev pub RequestNumbers : Type 1
+RequestNumbers = (M : Type 0) (view : View M) (s : Scheme) (m : M) (q : Request) → T (tellsRequest (answer (step view s m q)))

@@ -5,19 +5,25 @@ use mathlib.Core.Bool.{Bool, false, not, cond, _&&_, _||_}
 use mathlib.Core.Option.{Option, none, some}
 use mathlib.Core.List.{List, [], _∷_}
 use lib.Dec.{eqb}
-use lib.ListN.{getD, set}
+use lib.ListN.{getD, set, replicate}
 use Rattle.rights.specs.Sets.{enterRight, deleteRight}
 use Rattle.rights.specs.declared.ThingType.{ThingType}
-use Rattle.model.specs.Request.{View}
-use Rattle.model.specs.Papers.{State}
+use Rattle.model.specs.Request.{Thing, ofType, View}
+use Rattle.model.specs.Papers.{Population, State}
 use Rattle.model.specs.declared.Things.{Things}
+use Rattle.model.specs.Scheme.{noType}
 
 pub record Matrix : Type 0 where
   pub things : Things
   pub cells : List ℕ
 
-abbrev pub noType : ThingType
-noType = record { 0 = 0 }
+-- things and cells, lent apart from each other, as one matrix
+abbrev pub matrixOf : Things → List ℕ → Matrix
+matrixOf th cells = record { things = th; cells = cells }
+
+-- every seat is free
+abbrev pub noThings : Things
+noThings = record { ids = replicate 48 0; types = replicate 48 noType }
 
 -- is x among the ids, and at which seat first?
 unfoldable pub among : List ℕ → ℕ → Bool
@@ -37,8 +43,20 @@ full th = not (among (th .ids) 0)
 unfoldable pub seat : Things → ℕ → ℕ
 seat th x = find (th .ids) x
 
-unfoldable pub thingAt : Things → ℕ → Option ThingType
-thingAt th x = cond (known th x) (some (getD (th .types) (seat th x) noType)) none
+-- what sits at seat i
+unfoldable pub thingIn : Things → ℕ → Thing
+thingIn th i = record { type = getD (th .types) i noType }
+
+unfoldable pub thingAt : Things → ℕ → Option Thing
+thingAt th x = cond (known th x) (some (thingIn th (seat th x))) none
+
+-- may x take a seat?
+unfoldable pub mayTake : Things → ℕ → Bool
+mayTake th x = not (known th x)
+
+-- the papers' things that a memory stands for
+unfoldable pub paperThings : Things → Population
+paperThings th = record { thing = thingAt th }
 
 -- where the cell of row X and column Y stands, and what it holds
 unfoldable pub place : Things → ℕ → ℕ → ℕ
@@ -50,9 +68,9 @@ cell m x y = getD (m .cells) (place (m .things) x y) 0
 unfoldable pub change : (ℕ → ℕ) → ℕ → ℕ → Matrix → Matrix
 change f x y m = record { things = m .things; cells = set (m .cells) (place (m .things) x y) (f (cell m x y)) }
 
--- the thing at seat p is x, of type t
-unfoldable pub putThing : ℕ → ℕ → ThingType → Things → Things
-putThing p x t th = record { ids = set (th .ids) p x; types = set (th .types) p t }
+-- the thing at seat p is x, and is t
+unfoldable pub putThing : ℕ → ℕ → Thing → Things → Things
+putThing p x t th = record { ids = set (th .ids) p x; types = set (th .types) p (t .type) }
 
 -- the cells with row p and column p emptied; k is the place of the first cell of the list
 unfoldable pub blank : ℕ → ℕ → List ℕ → List ℕ
@@ -61,15 +79,16 @@ blank p k (c ∷ cs) = cond (eqb (k / 48) p || eqb (k % 48) p) 0 c ∷ blank p (
 
 -- a free seat's cells are empty already, so a create stores to no cell
 unfoldable pub add : ℕ → ThingType → Matrix → Matrix
-add x t m = record { things = putThing (seat (m .things) 0) x t (m .things); cells = m .cells }
+add x t m = record { things = putThing (seat (m .things) 0) x (ofType t) (m .things); cells = m .cells }
 
 unfoldable pub remove : ℕ → Matrix → Matrix
-remove x m = record { things = putThing (seat (m .things) x) 0 noType (m .things); cells = blank (seat (m .things) x) 0 (m .cells) }
+remove x m = record { things = putThing (seat (m .things) x) 0 (ofType noType) (m .things); cells = blank (seat (m .things) x) 0 (m .cells) }
 
 unfoldable pub seats : View Matrix
 seats = record {
   thing = λ m x. thingAt (m .things) x;
   cell = cell;
+  mayCreate = λ m x. mayTake (m .things) x;
   full = λ m. full (m .things);
   enter = λ r x y m. change (enterRight (r .0)) x y m;
   delete = λ r x y m. change (deleteRight (r .0)) x y m;
@@ -80,6 +99,6 @@ seats = record {
 -- the papers' matrix that a memory stands for
 unfoldable pub standsFor : Matrix → State
 standsFor m = record {
-  typeOf = thingAt (m .things);
+  things = paperThings (m .things);
   rights = λ x y. cond (known (m .things) x && known (m .things) y) (cell m x y) 0;
 }

@@ -1,4 +1,4 @@
-// The plain data of the outline: a scheme with its commands, and the things of a matrix.
+// The plain data of the outline: a scheme with its commands, the things of a matrix, and what a request is answered.
 use rights::Parameter;
 use rights::Right;
 use rights::ThingType;
@@ -30,17 +30,17 @@ pub struct Operation {
 // Of each list the first `count` places are used; the others are kept at zero.
 pub struct Parameters {
     pub count: u8,
-    pub types: [ThingType; 8],
+    pub types: [ThingType; Parameters::PLACES],
 }
 
 pub struct Tests {
     pub count: u8,
-    pub list: [Test; 16],
+    pub list: [Test; Tests::PLACES],
 }
 
 pub struct Operations {
     pub count: u8,
-    pub list: [Operation; 32],
+    pub list: [Operation; Operations::PLACES],
 }
 
 pub struct Command {
@@ -59,33 +59,64 @@ pub struct Head {
 
 pub struct Scheme {
     pub head: Head,
-    pub commands: [Command; 32],
+    pub commands: [Command; Scheme::PLACES],
 }
 
 // The things of a matrix by seat; a seat whose id is 0 is free. The cells are kept apart, in a list of 48 times 48 sets.
 pub struct Things {
-    pub ids: [u16; 48],
-    pub types: [ThingType; 48],
+    pub ids: [u16; Things::LIMIT],
+    pub types: [ThingType; Things::LIMIT],
 }
 
+// Why a request was refused: the outline's number, and the place, from 0, of the test (14) or of the operation (15 to 17) at fault; 0 with every other
+// number.
+pub struct Refusal {
+    pub number: u8,
+    pub place: u8,
+}
+
+pub enum Verdict {
+    Done,
+    Refused(Refusal),
+}
+
+// What is told of it: the outline's number, 0 for success.
+pub struct Reply {
+    pub number: u8,
+}
+
+// The limits of the outline. `PLACES` is the same number as an array's length, which is of another type.
 impl Parameters {
-    pub const LIMIT: u8 = 8;
+    pub const LIMIT: u8 = Parameter::LIMIT;
+
+    pub const PLACES: usize = 8;
 }
 
 impl Tests {
     pub const LIMIT: u8 = 16;
+
+    pub const PLACES: usize = 16;
 }
 
 impl Operations {
     pub const LIMIT: u8 = 32;
+
+    pub const PLACES: usize = 32;
 }
 
 impl Scheme {
     pub const LIMIT: u8 = 32;
+
+    pub const PLACES: usize = 32;
 }
 
 impl Things {
     pub const LIMIT: usize = 48;
 
-    pub const CELLS: usize = 2304;
+    pub const CELLS: usize = Things::LIMIT * Things::LIMIT;
+}
+
+impl Reply {
+    // How many bytes it takes in a buffer.
+    pub const WIDTH: usize = 1;
 }

@@ -1,5 +1,4 @@
 -- The laws behind the printout.
-pub mod PutLaws
-pub mod Decimals
 pub mod RequestLaws
+pub mod ReadLaws
 pub mod PlayLaws

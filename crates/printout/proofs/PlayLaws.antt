@@ -1,139 +1,192 @@
--- What is read is accepted, so a run is neither refused as a whole (27) nor short of room (9), and the texts of its parts are the whole text.
--- Assumes nothing.
-use Prim.Native.Nat.{ℕ, _+_, _≤_, _<_}
+-- A run of what is accepted is neither refused as a whole (27) nor short of room (9), and the texts of its parts are the whole text, which is so short
+-- that its length is the position behind it. Assumes nothing.
+use Prim.Native.Nat.{ℕ, _+_, _*_, _≤_}
 use native.Mathlib.Omega.{arith}
-use native.Mathlib.Nat.{zero-add}
-use mathlib.Core.Path.{_≡_, sym, ap, _∙_}
-use mathlib.Core.Bool.{Bool, true, false, cond, _&&_}
-use mathlib.Core.List.{List, _++_, append-assoc}
-use lib.Dec.{T, eqb}
-use lib.ListN.{length, drop, getD, replicate}
+use mathlib.Core.Path.{_≡_, refl, sym, ap, _∙_}
+use mathlib.Core.List.{List, [], _∷_, _++_, map, append-assoc}
+use lib.Dec.{T}
+use lib.ListN.{length, take, drop, replicate, length-append, length-take}
 use lib.Seq.{sets}
 use borrow.Author.Tests.{le-leb}
-use Rattle.model.specs.Request.{run, answers}
-use Rattle.model.specs.Seats.{Matrix, seats}
+use Rattle.laws.proofs.Bools.{is-true}
+use Rattle.model.specs.Request.{number, run, answers, Answer}
+use Rattle.model.specs.Seats.{Matrix, matrixOf, noThings, seats}
 use Rattle.model.specs.Accepted.{acceptedScheme, acceptedMatrix}
+use Rattle.model.specs.Arrays.{noScheme}
 use Rattle.model.specs.declared.Scheme.{Scheme}
 use Rattle.model.specs.declared.Things.{Things}
-use Rattle.model.proofs.Bools.{is-true}
-use Rattle.records.specs.Reading.{Read, got, fault}
-use Rattle.records.specs.Front.{Refusal}
+use Rattle.records.specs.Bytes.{eachBytes}
 use Rattle.records.specs.Writing.{placed}
+use Rattle.records.specs.Told.{ofReading, readingPlace}
 use Rattle.records.specs.declared.Reading.{Reading}
 use Rattle.records.specs.declared.Reading.the-variants as reading
-use Rattle.records.proofs.FieldLaws.{apart}
-use Rattle.scheme_bytes.specs.Read.{noScheme}
+use Rattle.lines.specs.Put.{largest, putText}
+use Rattle.lines.proofs.PutLaws.{from-start, put-then}
+use Rattle.lines.proofs.LineLaws.{few-in-line}
 use Rattle.scheme_bytes.specs.Answers.{readScheme}
 use Rattle.scheme_bytes.specs.declared.answers.SchemeAnswer.{SchemeAnswer}
-use Rattle.matrix_bytes.specs.Read.{matrix}
-use Rattle.matrix_bytes.specs.Answers.{asMatrix, readMatrix}
+use Rattle.matrix_bytes.specs.Answers.{readMatrix}
 use Rattle.matrix_bytes.specs.declared.answers.MatrixAnswer.{MatrixAnswer}
-use Rattle.matrix_bytes.proofs.RoundTrips.{round-trips}
-use Rattle.engine.specs.List.{listOf, runAnswer, Result, runOn}
+use Rattle.engine.specs.List.{runAnswer, Result, runOn}
+use Rattle.request_list.specs.List.{readList}
 use Rattle.engine.specs.declared.answers.Ran.{Ran}
 use Rattle.totals.specs.Totals.{totalsOf}
 use Rattle.totals.specs.declared.answers.Totals.{Totals}
-use Rattle.printout.specs.Put.{Put}
-use Rattle.printout.specs.Text.{heading, badLine, requestLines, endingLine, endLine, runText, input, noThings, onMatrix, matrixText, onScheme, playText}
-use Rattle.printout.proofs.PutLaws.{put-then, put-same}
-use Rattle.printout.proofs.RequestLaws.{few-requests, listText, lines-more}
+use Rattle.totals.specs.declared.answers.Totals.the-variants as totals
+use Rattle.printout.specs.Text.{heading, badLine, requestLines, endingLine, endLine, runText, answersText, input, onMatrix, matrixText, onScheme, playText}
+use Rattle.printout.specs.Inner.Ending.{listText}
+use Rattle.request_list.proofs.ListLaws.{few-requests}
+use Rattle.printout.proofs.RequestLaws.{few-lines, few-bad, few-ending, lines-more}
+use Rattle.model.specs.Answers.{replyBytes, replyWidth, replyTo}
 
 -- ---- a run of an accepted matrix, with room for a result per byte
 
+-- a reply is its number's byte
+reply-numbers : (list : List Answer) → eachBytes (λ (a : Answer). replyBytes (replyTo a)) list ≡ map number list
+unfolding replyBytes replyTo
+reply-numbers [] = refl
+reply-numbers (a ∷ list) = ap (λ (ks : List ℕ). number a ∷ ks) (reply-numbers list)
+
 module _ (s : Scheme) (m : Matrix) (ok : T (acceptedScheme s)) (of : T (acceptedMatrix (s .head) m)) (bytes buffer : List ℕ)
     (room : length bytes ≤ length buffer) (ran : Ran) (cells numbers : List ℕ)
-    (e : record { ran = ran; cells = cells; numbers = numbers } ≡ runOn s m bytes buffer) where
+    (e : record { ran = ran; cells = cells; replies = numbers } ≡ runOn s m bytes buffer) where
   abbrev after : Matrix
-  after = run seats s m (listOf bytes .requests)
+  after = run seats s m (readList bytes .requests)
 
   abbrev results : List ℕ
-  results = answers seats s m (listOf bytes .requests)
+  results = map number (answers seats s m (readList bytes .requests))
 
   abbrev given : Result
-  given = record { ran = ran; cells = cells; numbers = numbers }
+  given = record { ran = ran; cells = cells; replies = numbers }
 
   carried-out : given ≡ record {
-    ran = record { answer = runAnswer (length (listOf bytes .requests)) (listOf bytes .ending); things = after .things };
+    ran = record { answer = runAnswer (length (readList bytes .requests)) (readList bytes .ending); things = after .things };
     cells = after .cells;
-    numbers = placed buffer 0 results;
+    replies = placed buffer 0 results;
   }
   unfolding runOn
   carried-out =
-      let fits = le-leb (length (listOf bytes .requests)) (length buffer) (omega (arith, few-requests bytes, room)) in
-      e ∙ rw (is-true (acceptedScheme s) ok, is-true (acceptedMatrix (s .head) m) of, fits)
+      let fits = le-leb (replyWidth * length (readList bytes .requests)) (length buffer) (omega (arith, few-requests bytes, room)) in
+      e ∙ rw (is-true (acceptedScheme s) ok, is-true (acceptedMatrix (s .head) m) of, fits, reply-numbers (answers seats s m (readList bytes .requests)))
 
-  now-is : _≡_ {A = Matrix} (record { things = ran .things; cells = cells }) after
-  now-is = ap (λ (r : Result). record { things = r .ran .things; cells = r .cells }) carried-out
+  now-is : matrixOf (ran .things) cells ≡ after
+  now-is = ap (λ (r : Result). matrixOf (r .ran .things) (r .cells)) carried-out
 
-  lines-are : listText 0 (listOf bytes) numbers ≡ listText 0 (listOf bytes) results
+  lines-are : listText 0 (readList bytes) numbers ≡ listText 0 (readList bytes) results
   unfolding placed
   lines-are =
-      let n : numbers ≡ results ++ drop (0 + length results) buffer = ap (λ (r : Result). r .numbers) carried-out in
-      rw (n, lines-more 0 s m (listOf bytes .requests) (drop (0 + length results) buffer))
+      let n : numbers ≡ results ++ drop (0 + length results) buffer = ap (λ (r : Result). r .replies) carried-out in
+      rw (n, lines-more 0 s m (readList bytes .requests) (drop (0 + length results) buffer))
 
-  pub printed : {out : List ℕ} {p : ℕ} {first : List ℕ} → Put out 0 heading p first → {q : ℕ} {second : List ℕ}
-      → Put first p (listText 0 (listOf bytes) numbers) q second → (t : Totals) → t ≡ totalsOf s (record { things = ran .things; cells = cells })
-      → {r : ℕ} {third : List ℕ} → Put second q (endLine t) r third → Put out 0 (runText s m (listOf bytes)) r third
+  pub printed : (out : List ℕ) → length out ≤ largest → {p : ℕ} {first : List ℕ} → _≡_ {A = ℕ × List ℕ} (p, first) (putText out 0 heading)
+      → {q : ℕ} {second : List ℕ} → _≡_ {A = ℕ × List ℕ} (q, second) (putText first p (listText 0 (readList bytes) numbers))
+      → (t : Totals) → t ≡ totalsOf s (matrixOf (ran .things) cells)
+      → {r : ℕ} {third : List ℕ} → _≡_ {A = ℕ × List ℕ} (r, third) (putText second q (endLine t)) → (r, third) ≡ putText out 0 (runText s m (readList bytes))
   unfolding runText
-  printed a b t f c =
-      let l = listOf bytes in
+  printed out far a b t f c =
+      let l = readList bytes in
       let parts = append-assoc heading (requestLines 0 (l .requests) results) (endingLine (l .ending)) in
-      put-same (put-then (put-then a b) c) (rw (lines-are, f, now-is) (ap (λ (x : List ℕ). x ++ endLine (totalsOf s after)) (sym parts)))
+      let text : (heading ++ listText 0 l numbers) ++ endLine t ≡ runText s m l =
+      rw (lines-are, f, now-is) (ap (λ (x : List ℕ). x ++ endLine (totalsOf s after)) (sym parts)) in
+      c ∙ put-then out 0 _ (b ∙ put-then out 0 heading a far _) far _ ∙ ap (putText out 0) text
 
--- ---- a matrix that was read
+-- ---- how long the text is at most
 
-abbrev how : MatrixAnswer × List ℕ → Reading
-how (a, cells) = a .answer
+few-end : (t : Totals) → length (endLine t) ≤ 67
+few-end (totals.Counted things cells entries) = omega (arith, few-in-line (things ∷ cells ∷ entries ∷ []))
+few-end (totals.Refused k) = omega (arith, few-bad 0 k)
 
-read-got : (ok room : Bool) (r : Read ℕ Refusal Matrix) (things : Things) (cells : List ℕ) (a : MatrixAnswer × List ℕ)
-    → a ≡ cond (ok && room) (asMatrix things cells r) (record { answer = reading.Refused 27 0; things = things }, cells)
-    → (next : ℕ) → how a ≡ reading.Done next → T ok × (r ≡ got (record { things = a .0 .things; cells = a .1 }) next)
-read-got true true (got m n) things cells a e next f =
-    let b : reading.Done n ≡ reading.Done next = ap how (sym e) ∙ f in
-    let c : n ≡ next = cc in (tt, rw (e, c))
-read-got true true (fault k) things cells a e next f = let b = ap how (sym e) ∙ f in apart (cc)
-read-got true false r things cells a e next f = let b = ap how (sym e) ∙ f in apart (cc)
-read-got false room r things cells a e next f = let b = ap how (sym e) ∙ f in apart (cc)
+few-run : (s : Scheme) (m : Matrix) (requests : List ℕ) → length requests ≤ 65536 → length (runText s m (readList requests)) ≤ largest
+unfolding runText heading
+few-run s m requests h =
+    let l = readList requests in
+    let lines = few-lines 0 (l .requests) (map number (answers seats s m (l .requests))) in
+    let ends = few-end (totalsOf s (run seats s m (l .requests))) in
+    simp length-append (omega (arith, few-requests requests, few-ending (l .ending)))
 
-abbrev empty : List ℕ
-empty = replicate 2304 0
+few-matrix : (s : Scheme) (requests : List ℕ) → length requests ≤ 65536 → (m : MatrixAnswer × List ℕ) (r : Reading)
+    → length (onMatrix s requests m r) ≤ largest
+few-matrix s requests h m (reading.Done next) = few-run s _ requests h
+few-matrix s requests h m (reading.Refused k at) = omega (arith, few-bad at k)
+
+few-scheme : (s : Scheme) (matrix requests : List ℕ) → length requests ≤ 65536 → (r : Reading) → length (onScheme s matrix requests r) ≤ largest
+unfolding matrixText
+few-scheme s matrix requests h (reading.Done next) =
+    let m = readMatrix matrix s noThings (replicate 2304 0) in
+    few-matrix s requests h m (m .0 .answer)
+few-scheme s matrix requests h (reading.Refused k at) = omega (arith, few-bad at k)
+
+few-play : (scheme matrix requests : List ℕ) → length (playText scheme matrix requests) ≤ largest
+unfolding playText input
+few-play scheme matrix requests =
+    let s = readScheme (take 65536 scheme) noScheme in
+    few-scheme (s .scheme) (take 65536 matrix) (take 65536 requests) (omega (arith, length-take 65536 requests)) (s .answer)
+
+-- ---- the answers that were stored before
+
+few-answers : (requests stored : List ℕ) → length (answersText requests stored) ≤ largest
+unfolding answersText heading input
+few-answers requests stored =
+    let front = take 65536 requests in
+    let l = readList front in
+    simp length-append (omega (arith, few-lines 0 (l .requests) stored, few-requests front, few-ending (l .ending), length-take 65536 requests))
+
+pub answers-printed : (requests stored front : List ℕ) → front ≡ input requests → (out : List ℕ) → length out ≤ largest
+    → {p : ℕ} {first : List ℕ} → _≡_ {A = ℕ × List ℕ} (p, first) (putText out 0 heading)
+    → {q : ℕ} {second : List ℕ} → _≡_ {A = ℕ × List ℕ} (q, second) (putText first p (listText 0 (readList front) stored))
+    → _≡_ {A = ℕ × List ℕ} (q, second) (length (answersText requests stored), sets out 0 (answersText requests stored))
+unfolding answersText
+answers-printed requests stored front is out far a b =
+    let l = readList (input requests) in
+    let text : heading ++ listText 0 (readList front) stored ≡ answersText requests stored =
+    rw is (sym (append-assoc heading (requestLines 0 (l .requests) stored) (endingLine (l .ending)))) in
+    b ∙ put-then out 0 heading a far _ ∙ ap (putText out 0) text ∙ from-start out _ (few-answers requests stored)
+
+-- ---- a matrix and a scheme that were read, or weren't
+
+-- the line of a refusal, from the number and the position that the reading tells
+abbrev Tells : Reading → ℕ → ℕ → Type 0
+Tells r at k = (at ≡ readingPlace r) × (k ≡ ofReading r .number)
+
+bad-line : (f : Reading → List ℕ) → ((k at : ℕ) → f (reading.Refused k at) ≡ badLine at k) → (r : Reading) (number place : ℕ)
+    → r ≡ reading.Refused number place → (at k : ℕ) → Tells r at k → badLine at k ≡ f r
+bad-line f is r number place e at k (g, h) = rw (g, h, e) (sym (is number place))
 
 module _ (s : Scheme) (bytes : List ℕ) (things : Things) (none : things ≡ noThings) (a : MatrixAnswer) (cells : List ℕ)
-    (e : _≡_ {A = MatrixAnswer × List ℕ} (a, cells) (readMatrix bytes s things empty)) where
-  abbrev read : Matrix
-  read = record { things = a .things; cells = cells }
-
-  pub accepted : ((i : ℕ) → getD bytes i 0 < 256) → (next : ℕ) → a .answer ≡ reading.Done next → T (acceptedScheme s) × T (acceptedMatrix (s .head) read)
-  unfolding readMatrix
-  accepted low next f =
-      let (ok, g) = read-got (acceptedScheme s) (eqb (length empty) 2304) (matrix (s .head) bytes 0) things empty (a, cells) e next f in
-      (ok, round-trips .back s bytes read next ok low g .0)
-
-  pub matrix-text : (r : Reading) → a .answer ≡ r → (requests : List ℕ) → matrixText s bytes requests ≡ onMatrix s requests (a, cells) r
+    (e : _≡_ {A = MatrixAnswer × List ℕ} (a, cells) (readMatrix bytes s things (replicate 2304 0))) (requests : List ℕ) where
+  matrix-text : onMatrix s requests (a, cells) (a .answer) ≡ matrixText s bytes requests
   unfolding matrixText
-  matrix-text r f requests = rw (← none, ← e, f)
+  matrix-text = rw (← none, ← e)
 
--- ---- a scheme that was read
+  pub matrix-good : (next : ℕ) → a .answer ≡ reading.Done next → runText s (matrixOf (a .things) cells) (readList requests) ≡ matrixText s bytes requests
+  matrix-good next f = ap (onMatrix s requests (a, cells)) (sym f) ∙ matrix-text
 
--- from the start on, the position behind a text is its length
-abbrev Told : List ℕ → List ℕ → ℕ → List ℕ → Type 0
-Told out text r new = _≡_ {A = ℕ × List ℕ} (r, new) (length text, sets out 0 text)
-
-whole : {out text new : List ℕ} {r : ℕ} → Put out 0 text r new → Told out text r new
-whole p = rw (p .position, p .stored, zero-add)
+  pub matrix-bad : (number place : ℕ) → a .answer ≡ reading.Refused number place → (at k : ℕ) → Tells (a .answer) at k
+      → badLine at k ≡ matrixText s bytes requests
+  matrix-bad number place f at k g = bad-line (onMatrix s requests (a, cells)) (λ k at. refl) (a .answer) number place f at k g ∙ matrix-text
 
 module _ (scheme matrix requests front : List ℕ) (is : front ≡ input scheme) (table : Scheme) (none : table ≡ noScheme) (a : SchemeAnswer)
     (e : a ≡ readScheme front table) where
-  scheme-text : (how : Reading) → a .answer ≡ how → onScheme (a .scheme) (input matrix) (input requests) how ≡ playText scheme matrix requests
+  -- from the start on, the position behind the text is its length
+  abbrev Told : List ℕ → ℕ → List ℕ → Type 0
+  Told out r new = _≡_ {A = ℕ × List ℕ} (r, new) (length (playText scheme matrix requests), sets out 0 (playText scheme matrix requests))
+
+  told : (out : List ℕ) {r : ℕ} {new : List ℕ} → _≡_ {A = ℕ × List ℕ} (r, new) (putText out 0 (playText scheme matrix requests)) → Told out r new
+  told out b = b ∙ from-start out _ (few-play scheme matrix requests)
+
+  scheme-text : onScheme (a .scheme) (input matrix) (input requests) (a .answer) ≡ playText scheme matrix requests
   unfolding playText
-  scheme-text how f = rw (← none, ← is, ← e, f)
+  scheme-text = rw (← none, ← is, ← e)
 
   pub scheme-good : (next : ℕ) → a .answer ≡ reading.Done next → (m q : List ℕ) → m ≡ input matrix → q ≡ input requests
-      → {out new : List ℕ} {r : ℕ} → Put out 0 (matrixText (a .scheme) m q) r new → Told out (playText scheme matrix requests) r new
-  scheme-good next f m q g h p =
-      let t : matrixText (a .scheme) m q ≡ playText scheme matrix requests = rw (g, h) (scheme-text _ f) in
-      whole (put-same p t)
+      → (out : List ℕ) {r : ℕ} {new : List ℕ} → _≡_ {A = ℕ × List ℕ} (r, new) (putText out 0 (matrixText (a .scheme) m q)) → Told out r new
+  scheme-good next f m q g h out b =
+      let t : matrixText (a .scheme) m q ≡ playText scheme matrix requests =
+      rw (g, h) (ap (onScheme (a .scheme) (input matrix) (input requests)) (sym f) ∙ scheme-text) in
+      told out (b ∙ ap (putText out 0) t)
 
-  pub scheme-bad : (k at : ℕ) → a .answer ≡ reading.Refused k at
-      → {out new : List ℕ} {r : ℕ} → Put out 0 (badLine at k) r new → Told out (playText scheme matrix requests) r new
-  scheme-bad k at f p = whole (put-same p (scheme-text _ f))
+  pub scheme-bad : (number place : ℕ) → a .answer ≡ reading.Refused number place → (at k : ℕ) → Tells (a .answer) at k
+      → (out : List ℕ) {r : ℕ} {new : List ℕ} → _≡_ {A = ℕ × List ℕ} (r, new) (putText out 0 (badLine at k)) → Told out r new
+  scheme-bad number place f at k g out b =
+      let t = bad-line (onScheme (a .scheme) (input matrix) (input requests)) (λ k at. refl) (a .answer) number place f at k g in
+      told out (b ∙ ap (putText out 0) (t ∙ scheme-text))

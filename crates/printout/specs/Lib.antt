@@ -1,3 +1,3 @@
--- What `play` prints (`Text`), and what the functions that put it in a buffer do (`Put`).
+-- What `play` prints (`Text`); `Inner` is cited by private functions only.
 pub mod Text
-pub mod Put
+pub mod Inner

@@ -1,40 +1,24 @@
 -- The outline, "The program play": the whole text, as ASCII codes. A heading, a line per request (position, command, result), and at the end
--- things, cells that aren't empty, entries. Assumes nothing.
-use Prim.Native.Nat.{ℕ, zero, suc, _+_, _/_, _%_}
-use mathlib.Core.Bool.{cond}
-use mathlib.Core.List.{List, [], _∷_, _++_}
-use lib.Dec.{ltb}
+-- things, cells that aren't empty, entries; and the same without the end, for `run`. Assumes nothing.
+use Prim.Native.Nat.{ℕ, suc}
+use mathlib.Core.List.{List, [], _∷_, _++_, map}
 use lib.ListN.{take, replicate}
-use Rattle.model.specs.Request.{Request, run, answers}
-use Rattle.model.specs.Seats.{Matrix, seats, noType}
+use Rattle.lines.specs.Lines.{line}
+use Rattle.model.specs.Request.{Request, number, run, answers}
+use Rattle.model.specs.Seats.{Matrix, matrixOf, noThings, seats}
 use Rattle.model.specs.declared.Scheme.{Scheme}
-use Rattle.model.specs.declared.Things.{Things}
 use Rattle.records.specs.declared.Reading.{Reading}
 use Rattle.records.specs.declared.Reading.the-variants.{Done, Refused}
-use Rattle.scheme_bytes.specs.Read.{noScheme}
 use Rattle.scheme_bytes.specs.Answers.{readScheme}
 use Rattle.matrix_bytes.specs.Answers.{readMatrix}
 use Rattle.matrix_bytes.specs.declared.answers.MatrixAnswer.{MatrixAnswer}
-use Rattle.engine.specs.List.{Listed, listOf}
+use Rattle.request_list.specs.List.{readList, Listed}
 use Rattle.totals.specs.Totals.{totalsOf}
 use Rattle.totals.specs.declared.answers.Totals.{Totals}
 use Rattle.totals.specs.declared.answers.Totals.the-variants as totals
+use Rattle.model.specs.Arrays.{noScheme}
 
--- ---- numbers and lines
-
--- a number in decimal; 20 digits hold every number of a machine's word
-unfoldable pub decimalIn : ℕ → ℕ → List ℕ
-decimalIn zero n = []
-decimalIn (suc k) n = cond (ltb n 10) ((48 + n) ∷ []) (decimalIn k (n / 10) ++ (48 + n % 10) ∷ [])
-
-unfoldable pub decimal : ℕ → List ℕ
-decimal n = decimalIn 20 n
-
--- numbers with a space between them, then the line's end
-unfoldable pub line : List ℕ → List ℕ
-line [] = []
-line (x ∷ []) = decimal x ++ 10 ∷ []
-line (x ∷ y ∷ zs) = decimal x ++ 32 ∷ line (y ∷ zs)
+-- ---- the lines with words
 
 -- "request command result"
 unfoldable pub heading : List ℕ
@@ -65,18 +49,21 @@ endingLine (Refused k at) = badLine at k
 
 unfoldable pub runText : Scheme → Matrix → Listed → List ℕ
 runText s m l =
-    heading ++ requestLines 0 (l .requests) (answers seats s m (l .requests)) ++ endingLine (l .ending)
+    heading ++ requestLines 0 (l .requests) (map number (answers seats s m (l .requests))) ++ endingLine (l .ending)
     ++ endLine (totalsOf s (run seats s m (l .requests)))
 
 -- ---- the files: of a longer one only the first 65,536 bytes are the input
 unfoldable pub input : List ℕ → List ℕ
 input bytes = take 65536 bytes
 
-abbrev pub noThings : Things
-noThings = record { ids = replicate 48 0; types = replicate 48 noType }
+-- what `run` prints of a list whose results are stored: the heading, a line for each request that has one, and a record that can't be read
+unfoldable pub answersText : List ℕ → List ℕ → List ℕ
+answersText requests results =
+    let l = readList (input requests) in
+    heading ++ requestLines 0 (l .requests) results ++ endingLine (l .ending)
 
 abbrev pub onMatrix : Scheme → List ℕ → MatrixAnswer × List ℕ → Reading → List ℕ
-onMatrix s requests m (Done next) = runText s (record { things = m .0 .things; cells = m .1 }) (listOf requests)
+onMatrix s requests m (Done next) = runText s (matrixOf (m .0 .things) (m .1)) (readList requests)
 onMatrix s requests m (Refused k at) = badLine at k
 
 unfoldable pub matrixText : Scheme → List ℕ → List ℕ → List ℕ

@@ -1,5 +1,6 @@
-// The whole text that `play` prints, in a lent buffer.
+// The whole text that `play` prints, and what `run` prints of a list's answers, in a lent buffer.
 mod play;
 mod text;
 
+pub use play::answers_text;
 pub use play::printout;

@@ -17,6 +17,7 @@ use Rattle.records.specs.Reading.{Read, got, fault, byte, number, field,
 use Rattle.records.specs.declared.Field.the-variants as one
 use Rattle.records.specs.declared.Field2.the-variants as two
 use Rattle.records.specs.declared.Field8.the-variants as eight
+use Rattle.laws.proofs.Differ.{constructors-differ}
 
 module _ (b : List ℕ) (i : ℕ) where
   pub none-left : length b ≤ i → drop i b ≡ []
@@ -94,55 +95,52 @@ module _ (b : List ℕ) (i : ℕ) where
   eight-there h low high v el eh e = rw (number-there 8 b i h, number-eight) (ap eight.Value (e ∙ rw (el, eh)))
 
 -- ---- from the answer of a function back to the reader
-pub apart : {A : Type 0} → _≡_ {A = ℕ} 0 1 → A
-apart e = absurd (omega arith)
-
 as-value : (r : Read (List ℕ) ℕ ℕ) (v : ℕ) → asField r ≡ one.Value v → (t : List ℕ) × (r ≡ got v t)
 as-value (got u t) v e = (t, let f : u ≡ v = cc in rw f)
-as-value (fault k) v e = apart (cc)
+as-value (fault k) v e = constructors-differ (cc)
 
 as-value2 : (r : Read (List ℕ) ℕ ℕ) (v : ℕ) → asField2 r ≡ two.Value v → (t : List ℕ) × (r ≡ got v t)
 as-value2 (got u t) v e = (t, let f : u ≡ v = cc in rw f)
-as-value2 (fault k) v e = apart (cc)
+as-value2 (fault k) v e = constructors-differ (cc)
 
 as-value8 : (r : Read (List ℕ) ℕ ℕ) (v : ℕ) → asField8 r ≡ eight.Value v → (t : List ℕ) × (r ≡ got v t)
 as-value8 (got u t) v e = (t, let f : u ≡ v = cc in rw f)
-as-value8 (fault k) v e = apart (cc)
+as-value8 (fault k) v e = constructors-differ (cc)
 
 pub field-fault : (r : Read (List ℕ) ℕ ℕ) (k : ℕ) → asField r ≡ one.Fault k → r ≡ fault k
-field-fault (got u t) k e = apart (cc)
+field-fault (got u t) k e = constructors-differ (cc)
 field-fault (fault j) k e = let f : j ≡ k = cc in rw f
 
 pub field2-fault : (r : Read (List ℕ) ℕ ℕ) (k : ℕ) → asField2 r ≡ two.Fault k → r ≡ fault k
-field2-fault (got u t) k e = apart (cc)
+field2-fault (got u t) k e = constructors-differ (cc)
 field2-fault (fault j) k e = let f : j ≡ k = cc in rw f
 
 pub field8-fault : (r : Read (List ℕ) ℕ ℕ) (k : ℕ) → asField8 r ≡ eight.Fault k → r ≡ fault k
-field8-fault (got u t) k e = apart (cc)
+field8-fault (got u t) k e = constructors-differ (cc)
 field8-fault (fault j) k e = let f : j ≡ k = cc in rw f
 
 -- what each took
 pub byte-was : (l : List ℕ) (v : ℕ) (t : List ℕ) → byte l ≡ got v t → l ≡ v ∷ t
-byte-was [] v t e = apart (cc)
+byte-was [] v t e = constructors-differ (cc)
 byte-was (x ∷ l) v t e = cc
 
 field-was : (low limit k : ℕ) (l : List ℕ) (v : ℕ) (t : List ℕ) → field low limit k l ≡ got v t → (l ≡ v ∷ t) × (low ≤ v) × (v < limit)
 unfolding field
-field-was low limit k [] v t e = apart (cc)
+field-was low limit k [] v t e = constructors-differ (cc)
 field-was low limit k (x ∷ l) v t e = go (leb low x) (ltb x limit) refl refl e
   where
     go : (c d : Bool) → leb low x ≡ c → ltb x limit ≡ d → bind (check (c && d) k l) (λ _. done x) ≡ got v t →
         (x ∷ l ≡ v ∷ t) × (low ≤ v) × (v < limit)
     go true true p q f = let g : x ≡ v = cc in (cc, rw g at (leb-true low x p), rw g at (ltb-true x limit q))
-    go true false p q f = apart (cc)
-    go false d p q f = apart (cc)
+    go true false p q f = constructors-differ (cc)
+    go false d p q f = constructors-differ (cc)
 
 number-was : (w : ℕ) (b : List ℕ) (i v : ℕ) (t : List ℕ) → number w (drop i b) ≡ got v t → t ≡ drop (i + w) b
 number-was zero b i v t e = let f : t ≡ drop i b = cc in rw (add-zero, f)
 number-was (suc w) b i v t e = by (decLt (length b) (i + suc w))
   where
     by : Dec (length b < i + suc w) → t ≡ drop (i + suc w) b
-    by (yes l) = let f = number-end w b i l in apart (cc)
+    by (yes l) = let f = number-end w b i l in constructors-differ (cc)
     by (no g) = let f = number-there (suc w) b i (omega (arith, g)) in cc
 
 module _ (b : List ℕ) (i j v : ℕ) where

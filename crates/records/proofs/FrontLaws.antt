@@ -10,12 +10,12 @@ use lib.ListN.{length, take, drop, length-drop, drop-of-length-le}
 use lib.Seq.{take-all, take-nil}
 use borrow.Author.Tests.{le-leb, lt-leb, lt-ltb, le-ltb, leb-true}
 use Rattle.rights.specs.Sets.{has}
-use Rattle.records.proofs.FieldLaws.{apart}
 use Rattle.records.specs.Bytes.{number2, part}
 use Rattle.records.specs.Front.{allowed, recordAt, nextAt, afterRecord, passedUp, inRecord, onBody}
 use Rattle.records.specs.Reading.{fault, Body, whole}
 use Rattle.records.specs.declared.RecordAnswer.the-variants.{Record, Refused}
 use Rattle.records.specs.declared.Reading.the-variants as reading
+use Rattle.laws.proofs.Differ.{constructors-differ}
 
 -- ---- the kinds
 pub allowed-below : (kinds kind : ℕ) → kind < 16 → eqb (kinds / 2 ^ kind % 2) 1 ≡ allowed kinds kind
@@ -74,9 +74,9 @@ opened : (a b d : Bool) (x y z at kind start len : ℕ) →
     cond a (cond b (cond d (Record x y z) (Refused 1 at)) (Refused 2 at)) (Refused 1 at) ≡ Record kind start len →
     (d ≡ true) × (b ≡ true) × (x ≡ kind) × (y ≡ start) × (z ≡ len)
 opened true true true x y z at kind start len e = (refl, refl, cc, cc, cc)
-opened true true false x y z at kind start len e = apart (cc)
-opened true false d x y z at kind start len e = apart (cc)
-opened false b d x y z at kind start len e = apart (cc)
+opened true true false x y z at kind start len e = constructors-differ (cc)
+opened true false d x y z at kind start len e = constructors-differ (cc)
+opened false b d x y z at kind start len e = constructors-differ (cc)
 
 pub record-found : (s : List ℕ) (at kinds kind start len : ℕ) → recordAt s at kinds ≡ Record kind start len → Found s at kinds kind start len
 unfolding recordAt

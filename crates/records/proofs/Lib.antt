@@ -10,3 +10,4 @@ pub mod TripRecord
 pub mod Loop
 pub mod Below
 pub mod Wrote
+pub mod Faults

@@ -9,7 +9,7 @@ use mathlib.Core.Path.{_≡_, refl, sym, ap, _∙_}
 use lib.Dec.{T}
 use lib.ListN.{length, getD, drop, length-append, take-append-drop}
 use lib.Seq.{drop-drop, drop-append-seam, getD-append-add, take-at}
-use Rattle.records.specs.Bytes.{part}
+use Rattle.records.specs.Bytes.{part, eachBytes}
 use Rattle.records.specs.Writing.{placed}
 use Rattle.records.specs.Reading.{Read, got, fault, Reader, bind, done, check, steps, _>>=_, _>>_}
 use Rattle.records.proofs.PlacedLaws.{drop-placed, drop-at-placed}
@@ -167,11 +167,7 @@ module _ {I F A C : Type 0} {St : Stream I} where
 
 -- ---- so many, each in the state that those before it left
 module _ {A : Type 0} (enc : A → List ℕ) where
-  abbrev pub encAll : List A → List ℕ
-  encAll [] = []
-  encAll (a ∷ xs) = enc a ++ encAll xs
-
-  pub length-all : (w : ℕ) → ((a : A) → length (enc a) ≡ w) → (xs : List A) → length (encAll xs) ≡ length xs * w
+  pub length-all : (w : ℕ) → ((a : A) → length (enc a) ≡ w) → (xs : List A) → length (eachBytes enc xs) ≡ length xs * w
   length-all w h [] = rw zero-mul
   length-all w h (a ∷ xs) = rw (length-append, h a, length-all w h xs) (omega arith)
 
@@ -182,18 +178,18 @@ module _ {A S : Type 0} (next : S → A → S) (Ok : S → A → Type 0) where
 
 module _ {I F A S : Type 0} {St : Stream I} {p : S → Reader I F A} {enc : A → List ℕ} {Ok : S → A → Type 0}
     (t : (s : S) → Trip St (p s) enc (Ok s)) (next : S → A → S) where
-  pub steps-there : (n : ℕ) (s : S) (xs : List A) → OkAll next Ok s xs → length xs ≡ n → (i j : I) → St .reads (encAll enc xs) i j →
+  pub steps-there : (n : ℕ) (s : S) (xs : List A) → OkAll next Ok s xs → length xs ≡ n → (i j : I) → St .reads (eachBytes enc xs) i j →
       steps p next n s i ≡ got xs j
   steps-there zero s [] o l i j r = rw (St .none-back r)
   steps-there zero s (a ∷ xs) o l i j r = absurd (omega arith)
   steps-there (suc n) s [] o l i j r = absurd (omega arith)
   steps-there (suc n) s (a ∷ xs) o l i k r =
-      let m = St .split (enc a) (encAll enc xs) r in
+      let m = St .split (enc a) (eachBytes enc xs) r in
       let e : p s i ≡ got a (m .0) = t s .there a (o .0) i (m .0) (m .1) in
       rw (e, steps-there n (next s a) xs (o .1) (omega arith) (m .0) k (m .2))
 
   abbrev pub Stood : ℕ → S → I → List A → I → Type 0
-  Stood n s i xs j = St .reads (encAll enc xs) i j × (OkAll next Ok s xs × (length xs ≡ n))
+  Stood n s i xs j = St .reads (eachBytes enc xs) i j × (OkAll next Ok s xs × (length xs ≡ n))
 
   pub steps-back : (n : ℕ) (s : S) (i j : I) (xs : List A) → St .good i → steps p next n s i ≡ got xs j → Stood n s i xs j
   steps-back zero s i j xs g e = got-same (Stood zero s i) e (St .none i, (tt, refl))
@@ -202,9 +198,9 @@ module _ {I F A S : Type 0} {St : Stream I} {p : S → Reader I F A} {enc : A �
       let b = t s .back i (m .1) (m .0) g (m .2) in
       let d = bind-got (steps p next n (next s (m .0)) (m .1)) (λ ys. done (m .0 ∷ ys)) (m .3) in
       let c = steps-back n (next s (m .0)) (m .1) (d .1) (d .0) (St .kept (enc (m .0)) (b .0) g) (d .2) in
-      got-same (Stood (suc n) s i) {a = m .0 ∷ d .0} (d .3) (St .join (enc (m .0)) (encAll enc (d .0)) (b .0) (c .0), ((b .1, c .1 .0), ap suc (c .1 .1)))
+      got-same (Stood (suc n) s i) {a = m .0 ∷ d .0} (d .3) (St .join (enc (m .0)) (eachBytes enc (d .0)) (b .0) (c .0), ((b .1, c .1 .0), ap suc (c .1 .1)))
 
-  pub trip-steps : (n : ℕ) (s : S) → Trip St (steps p next n s) (encAll enc) (λ xs. OkAll next Ok s xs × (length xs ≡ n))
+  pub trip-steps : (n : ℕ) (s : S) → Trip St (steps p next n s) (eachBytes enc) (λ xs. OkAll next Ok s xs × (length xs ≡ n))
   trip-steps n s = record { there = λ xs o i j r. steps-there n s xs (o .0) (o .1) i j r; back = λ i j xs g e. steps-back n s i j xs g e }
 
 -- ---- both ways, of a reader of positions in any input

@@ -11,8 +11,8 @@ use borrow.Author.Tests.{leb-true}
 use Rattle.records.specs.Writing.{placed, writeBytes}
 use Rattle.records.specs.declared.Writing.{Writing}
 use Rattle.records.specs.declared.Writing.the-variants.{Done, Refused}
-use Rattle.records.proofs.FieldLaws.{apart}
 use Rattle.records.proofs.PlacedLaws.{take-through-placed}
+use Rattle.laws.proofs.Differ.{constructors-differ}
 
 pub pair-eq : {A : Type 0} {x y : A} {l m : List ℕ} → _≡_ {A = A × List ℕ} (x, l) (y, m) → (x ≡ y) × (l ≡ m)
 pair-eq {A} e = (ap (λ (p : A × List ℕ). p .0) e, ap (λ (p : A × List ℕ). p .1) e)
@@ -31,8 +31,8 @@ wrote true k out at vs next left e = (tt, go (leb (at + length vs) (length out))
     go : (b : Bool) → leb (at + length vs) (length out) ≡ b →
         _≡_ {A = Writing × List ℕ} (cond b (Done (at + length vs), placed out at vs) (Refused 9, out)) (Done next, left) → Wrote out at vs next left
     go true f e = let (p, d) = pair-eq e in record { room = leb-true _ _ f; behind = cc; stands = sym d }
-    go false f e = let (p, d) = pair-eq e in apart (cc)
-wrote false k out at vs next left e = let (p, d) = pair-eq e in apart (cc)
+    go false f e = let (p, d) = pair-eq e in constructors-differ (cc)
+wrote false k out at vs next left e = let (p, d) = pair-eq e in constructors-differ (cc)
 
 -- from the start: what was written is what stands in front
 pub wrote-first : (out vs : List ℕ) (next : ℕ) (left : List ℕ) → Wrote out 0 vs next left → (next ≡ length vs) × (take next left ≡ vs)

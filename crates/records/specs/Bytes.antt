@@ -19,3 +19,8 @@ number2 s i = getD s i 0 + 256 * getD s (i + 1) 0
 
 unfoldable pub part : List ℕ → ℕ → ℕ → List ℕ
 part s start len = take len (drop start s)
+
+-- the bytes of each, one behind the other
+abbrev pub eachBytes : {A : Type 0} → (A → List ℕ) → List A → List ℕ
+eachBytes f [] = []
+eachBytes f (x ∷ xs) = f x ++ eachBytes f xs

@@ -3,3 +3,4 @@ pub mod Bytes
 pub mod Reading
 pub mod Front
 pub mod Writing
+pub mod Told

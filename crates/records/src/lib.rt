@@ -8,6 +8,7 @@ ghost use Rattle.records.specs.Bytes.{littleEndian, recordBytes, number2
 ghost use Rattle.records.specs.Reading.{byte, number, field, asField, asField2, asField8};
 ghost use Rattle.records.specs.Front.{allowed, recordAt, passedUp, nextAt};
 ghost use Rattle.records.specs.Writing.{writeRecord};
+ghost use Rattle.records.specs.Told.{ofField, ofField2, ofField8, ofRecord, ofReading, ofWriting, recordPlace, readingPlace};
 
 // The kinds that may stand at a place: bit k for kind k.
 pub struct Kinds(pub u16);
@@ -54,6 +55,106 @@ impl Kinds {
             (self.0 >> kind) % 2 == 1
         } else {
             false
+        }
+    }
+}
+
+impl Field {
+    // The outline's number: 0 is success.
+    pub fn number(self) -> u8
+        ensures { λ r. ⌜ r ≡ ofField self .number ⌝ }
+    {
+        match self {
+            Field::Value(_) => 0,
+            Field::Fault(x) => x,
+        }
+    }
+}
+
+impl Field2 {
+    // The outline's number: 0 is success.
+    pub fn number(self) -> u8
+        ensures { λ r. ⌜ r ≡ ofField2 self .number ⌝ }
+    {
+        match self {
+            Field2::Value(_) => 0,
+            Field2::Fault(x) => x,
+        }
+    }
+}
+
+impl Field8 {
+    // The outline's number: 0 is success.
+    pub fn number(self) -> u8
+        ensures { λ r. ⌜ r ≡ ofField8 self .number ⌝ }
+    {
+        match self {
+            Field8::Value(_) => 0,
+            Field8::Fault(x) => x,
+        }
+    }
+}
+
+impl RecordAnswer {
+    // The outline's number: 0 is success.
+    pub fn number(self) -> u8
+        ensures { λ r. ⌜ r ≡ ofRecord self .number ⌝ }
+    {
+        match self {
+            RecordAnswer::Record {
+                kind: _,
+                start: _,
+                len: _,
+            } => 0,
+            RecordAnswer::Refused { number, at: _ } => number,
+        }
+    }
+
+    // The record's position, where it was refused.
+    pub fn at(self) -> usize
+        ensures { λ r. ⌜ r ≡ recordPlace self ⌝ }
+    {
+        match self {
+            RecordAnswer::Record {
+                kind: _,
+                start: _,
+                len: _,
+            } => 0,
+            RecordAnswer::Refused { number: _, at } => at,
+        }
+    }
+}
+
+impl Reading {
+    // The outline's number: 0 is success.
+    pub fn number(self) -> u8
+        ensures { λ r. ⌜ r ≡ ofReading self .number ⌝ }
+    {
+        match self {
+            Reading::Done { next: _ } => 0,
+            Reading::Refused { number, at: _ } => number,
+        }
+    }
+
+    // The record's position, where it was refused.
+    pub fn at(self) -> usize
+        ensures { λ r. ⌜ r ≡ readingPlace self ⌝ }
+    {
+        match self {
+            Reading::Done { next: _ } => 0,
+            Reading::Refused { number: _, at } => at,
+        }
+    }
+}
+
+impl Writing {
+    // The outline's number: 0 is success.
+    pub fn number(self) -> u8
+        ensures { λ r. ⌜ r ≡ ofWriting self .number ⌝ }
+    {
+        match self {
+            Writing::Done { next: _ } => 0,
+            Writing::Refused { number } => number,
         }
     }
 }

@@ -5,17 +5,15 @@ use native.Mathlib.Decide.{decLt}
 use mathlib.Core.List.{List, [], _∷_}
 use mathlib.Core.Path.{_≡_, refl}
 use lib.ListN.{length, drop}
-use Rattle.records.specs.Reading.{Read, got, fault, number, field, steps, whole, asField}
+use Rattle.records.specs.Reading.{got, fault, field, whole, asField}
 use Rattle.records.specs.declared.Field.the-variants as one
-use Rattle.records.proofs.FieldLaws.{one-off, none-left, apart, field-value}
-use Rattle.request_bytes.specs.Read.{request, requestOf}
-use Rattle.request_bytes.specs.declared.Request.{Request}
+use Rattle.records.proofs.FieldLaws.{one-off, none-left, field-value}
+use Rattle.request_bytes.specs.Read.{idsIn, request, requestOf}
+use Rattle.request_bytes.specs.declared.answers.Request.{Request}
 use Rattle.request_bytes.proofs.Laws.{no-count}
+use Rattle.laws.proofs.Differ.{constructors-differ}
 
 -- ---- so many ids, of two bytes each
-
-abbrev pub idsIn : ℕ → List ℕ → Read (List ℕ) ℕ (List ℕ)
-idsIn n = steps (λ (u : Unit {0}). number 2) (λ u x. u) n tt
 
 ids-short : (n : ℕ) (l : List ℕ) → length l < 2 * n → idsIn n l ≡ fault 3
 ids-short zero l h = absurd (omega arith)
@@ -60,8 +58,8 @@ skip-fault (x ∷ b) k e = no-count (x ∷ b) x refl k e
 pub skip-off : (b : List ℕ) (count : ℕ) → asField (field 0 9 4 (drop 1 b)) ≡ one.Value count → (length b ≡ 2 + 2 * count → ⊥)
     → whole request b ≡ fault 3
 unfolding field
-skip-off [] count e h = apart (cc)
-skip-off (x ∷ []) count e h = apart (cc)
+skip-off [] count e h = constructors-differ (cc)
+skip-off (x ∷ []) count e h = constructors-differ (cc)
 skip-off (x ∷ y ∷ l) count e h = body-off x y l count (field-value (x ∷ y ∷ l) 1 2 count 0 9 4 refl e) (λ m. h (omega arith))
 
 pub skip-on : (b : List ℕ) (count : ℕ) → asField (field 0 9 4 (drop 1 b)) ≡ one.Value count → length b ≡ 2 + 2 * count

@@ -10,8 +10,8 @@ use Rattle.records.specs.declared.Writing.{Writing}
 use Rattle.records.specs.declared.Writing.the-variants as writing
 use Rattle.request_bytes.specs.Read.{idsOf, requestOf, readRequest}
 use Rattle.request_bytes.specs.Write.{writeRequest}
-use Rattle.request_bytes.specs.declared.Request.{Request}
-use Rattle.request_bytes.specs.declared.RequestReading.the-variants.{Done}
+use Rattle.request_bytes.specs.declared.answers.Request.{Request}
+use Rattle.request_bytes.specs.declared.answers.RequestReading.the-variants.{Done}
 
 pub record FunctionTrips : Type 0 where
   -- Writing then reading gives the same content. A request of a command number (a byte) and ids (of two bytes each) was written at a position, and the

@@ -9,7 +9,7 @@ use Rattle.records.specs.Reading.{got}
 use Rattle.records.specs.Writing.{placed}
 use Rattle.request_bytes.specs.Read.{idsOf, requestOf, requestAt}
 use Rattle.request_bytes.specs.Write.{requestBytes}
-use Rattle.request_bytes.specs.declared.Request.{Request}
+use Rattle.request_bytes.specs.declared.answers.Request.{Request}
 
 pub record RoundTrips : Type 0 where
   -- Writing then reading gives the same content, wherever the record was written.

@@ -7,11 +7,9 @@ use lib.Dec.{eqb}
 use lib.ListN.{length, take, replicate}
 use Rattle.records.specs.Reading.{Read, got, fault, Body, _>>=_, _>>_, done, steps, byte, field, number}
 use Rattle.records.specs.Front.{Refusal, inRecord}
-use Rattle.request_bytes.specs.declared.Request.{Request}
-use Rattle.request_bytes.specs.declared.RequestReading.the-variants.{Done, End, Refused}
-use Rattle.request_bytes.specs.declared.RequestAnswer.{RequestAnswer}
-use Rattle.request_bytes.specs.declared.Walk.the-variants as walk
-use Rattle.request_bytes.specs.declared.IdsRead.{IdsRead}
+use Rattle.request_bytes.specs.declared.answers.Request.{Request}
+use Rattle.request_bytes.specs.declared.answers.RequestReading.the-variants.{Done, End, Refused}
+use Rattle.request_bytes.specs.declared.answers.RequestAnswer.{RequestAnswer}
 
 -- the ids that the array holds, and a request with these ids, with zeros behind them
 abbrev pub idsOf : Request → List ℕ
@@ -20,12 +18,16 @@ idsOf q = take (q .count) (q .ids)
 unfoldable pub requestOf : ℕ → List ℕ → Request
 requestOf command ids = record { command = command; count = length ids; ids = ids ++ replicate (8 - length ids) 0 }
 
+-- so many ids, of two bytes each
+abbrev pub idsIn : ℕ → Body (List ℕ)
+idsIn count = steps (λ (u : Unit {0}). number 2) (λ u x. u) count tt
+
 -- command (1), ids (1), 2 bytes an id; neither the command number nor the ids are checked here
 unfoldable pub request : Body Request
 request = do
   command ← byte
   count ← field 0 9 4
-  ids ← steps (λ (u : Unit {0}). number 2) (λ u x. u) count tt
+  ids ← idsIn count
   done (requestOf command ids)
 
 -- kind 6 is bit 6 of the kinds that may stand there
@@ -41,9 +43,3 @@ asRequest (fault f) = record { answer = Refused (f .number) (f .at); request = n
 
 unfoldable pub readRequest : List ℕ → ℕ → RequestAnswer
 readRequest s at = cond (eqb at (length s)) (record { answer = End; request = noRequest }) (asRequest (requestAt s at))
-
--- ---- the answers of the inner functions
-
-abbrev pub asIds : Read (List ℕ) ℕ (List ℕ) → IdsRead
-asIds (got ids rest) = record { answer = walk.Whole; ids = ids ++ replicate (8 - length ids) 0 }
-asIds (fault k) = record { answer = walk.Fault k; ids = replicate 8 0 }

@@ -2,20 +2,16 @@
 -- Assumes nothing.
 use Prim.Native.Nat.{ℕ}
 use mathlib.Core.Bool.{cond}
-use mathlib.Core.List.{List, [], _∷_, _++_}
+use mathlib.Core.List.{List, _∷_}
 use lib.Dec.{leb}
 use lib.ListN.{length}
-use Rattle.records.specs.Bytes.{littleEndian, recordBytes}
+use Rattle.records.specs.Bytes.{littleEndian, recordBytes, eachBytes}
 use Rattle.records.specs.Writing.{writeBytes}
 use Rattle.records.specs.declared.Writing.{Writing}
 use Rattle.records.specs.declared.Writing.the-variants.{Refused}
 
-abbrev pub idBytes : List ℕ → List ℕ
-idBytes [] = []
-idBytes (x ∷ xs) = littleEndian 2 x ++ idBytes xs
-
 unfoldable pub requestBytes : ℕ → List ℕ → List ℕ
-requestBytes command ids = recordBytes 6 (command ∷ length ids ∷ idBytes ids)
+requestBytes command ids = recordBytes 6 (command ∷ length ids ∷ eachBytes (littleEndian 2) ids)
 
 unfoldable pub writeRequest : List ℕ → ℕ → ℕ → List ℕ → Writing × List ℕ
 writeRequest out at command ids =

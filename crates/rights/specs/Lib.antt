@@ -1,2 +1,3 @@
--- What the contracts of `rights` cite.
+-- What the contracts of `rights` cite: sets of rights and of types, and the three numberings.
 pub mod Sets
+pub mod Numberings

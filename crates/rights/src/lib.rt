@@ -1,6 +1,7 @@
 // Rights, types and parameters are three numberings, each a struct of its own; a set of rights goes by value.
 ghost use mathlib.Core.Path.{_≡_};
-ghost use Rattle.rights.specs.Sets.{has, single, enterRight, deleteRight, allRights, complement, countRights, within, partner};
+ghost use Rattle.rights.specs.Sets.{has, single, enterRight, deleteRight, allRights, complement, countRights, within};
+ghost use Rattle.rights.specs.Numberings.{rightBelow, typeBelow, parameterBelow, sameType, sameParameter, zeroRight, zeroType, zeroParameter, rightByte, typeByte, parameterByte, partnerOf};
 ghost use lib.Dec.{eqb};
 
 // A right's number, a type's number, and a parameter's place in a command. None may stand where another belongs.
@@ -21,7 +22,7 @@ impl Right {
 
     // The right that stands for this one's absence, where there are n rights.
     pub fn partner(self, n: u8) -> Right
-        ensures { λ r. ⌜ r .0 ≡ partner n (self .0) ⌝ }
+        ensures { λ r. ⌜ r ≡ partnerOf n self ⌝ }
     {
         let r = self.0;
         if n <= 255 - r {
@@ -29,6 +30,26 @@ impl Right {
         } else {
             Right(255)
         }
+    }
+
+    // Whether it is one of the first n rights.
+    pub fn below(self, n: u8) -> bool
+        ensures { λ b. ⌜ b ≡ rightBelow self n ⌝ }
+    {
+        self.0 < n
+    }
+
+    pub fn is_zero(self) -> bool
+        ensures { λ b. ⌜ b ≡ zeroRight self ⌝ }
+    {
+        self.0 == 0
+    }
+
+    // The byte that stands for it in a record.
+    pub fn byte(self) -> u8
+        ensures { λ r. ⌜ r ≡ rightByte self ⌝ }
+    {
+        self.0
     }
 
     // The set of this right alone; a number that is no right's gives the empty set.
@@ -45,10 +66,60 @@ impl Right {
 
 impl ThingType {
     pub const LIMIT: u8 = 16;
+
+    // Whether it is one of the first m types.
+    pub fn below(self, m: u8) -> bool
+        ensures { λ b. ⌜ b ≡ typeBelow self m ⌝ }
+    {
+        self.0 < m
+    }
+
+    pub fn is(self, other: ThingType) -> bool
+        ensures { λ b. ⌜ b ≡ sameType self other ⌝ }
+    {
+        self.0 == other.0
+    }
+
+    pub fn is_zero(self) -> bool
+        ensures { λ b. ⌜ b ≡ zeroType self ⌝ }
+    {
+        self.0 == 0
+    }
+
+    pub fn byte(self) -> u8
+        ensures { λ r. ⌜ r ≡ typeByte self ⌝ }
+    {
+        self.0
+    }
 }
 
 impl Parameter {
     pub const LIMIT: u8 = 8;
+
+    // Whether it is one of the first k parameters.
+    pub fn below(self, k: u8) -> bool
+        ensures { λ b. ⌜ b ≡ parameterBelow self k ⌝ }
+    {
+        self.0 < k
+    }
+
+    pub fn is(self, other: Parameter) -> bool
+        ensures { λ b. ⌜ b ≡ sameParameter self other ⌝ }
+    {
+        self.0 == other.0
+    }
+
+    pub fn is_zero(self) -> bool
+        ensures { λ b. ⌜ b ≡ zeroParameter self ⌝ }
+    {
+        self.0 == 0
+    }
+
+    pub fn byte(self) -> u8
+        ensures { λ r. ⌜ r ≡ parameterByte self ⌝ }
+    {
+        self.0
+    }
 }
 
 impl RightSet {

@@ -6,23 +6,25 @@ use mathlib.Core.Path.{_≡_, sym, ap, _∙_}
 use mathlib.Core.List.{List}
 use lib.Dec.{T}
 use lib.ListN.{getD, replicate}
-use Rattle.model.specs.Seats.{Matrix}
+use Rattle.model.specs.Seats.{Matrix, noThings}
 use Rattle.model.specs.Accepted.{acceptedScheme}
 use Rattle.model.specs.declared.Head.{Head}
 use Rattle.model.specs.declared.Scheme.{Scheme}
 use Rattle.model.specs.declared.Things.{Things}
+use Rattle.records.specs.Told.{ofReading, readingPlace}
+use Rattle.records.specs.declared.Reading.{Reading}
 use Rattle.records.specs.declared.Reading.the-variants.{Done, Refused}
 use Rattle.records.specs.declared.Writing.{Writing}
 use Rattle.records.proofs.Wrote.{wrote as was-written}
-use Rattle.scheme_bytes.specs.Read.{noScheme}
 use Rattle.scheme_bytes.specs.Write.{schemeBytes, writeScheme}
 use Rattle.scheme_bytes.specs.Answers.{readScheme}
 use Rattle.scheme_bytes.specs.declared.answers.SchemeAnswer.{SchemeAnswer}
 use Rattle.scheme_bytes.proofs.FunctionTrips.{function-trips}
 use Rattle.matrix_bytes.specs.Answers.{readMatrix, readMatrixByHead}
 use Rattle.matrix_bytes.specs.declared.answers.MatrixAnswer.{MatrixAnswer}
-use Rattle.matrix_bytes.proofs.ReadLaws.{by-head}
-use Rattle.robot.specs.Library.{call, gives, givesWrote, givesRan, writingBy, wrote, noThings, afterScheme, withScheme, afterMatrix, withMatrix, notConverted, notRun}
+use Rattle.robot.specs.Library.{call, gives, givesWrote, givesRan, writingBy, wrote, afterScheme, withScheme, afterMatrix, withMatrix, notConverted, notRun}
+use Rattle.model.specs.Arrays.{noScheme}
+use Rattle.matrix_bytes.proofs.ReadMatrix.{by-head}
 
 -- ---- a scheme that was read is accepted
 pub scheme-accepted : (bytes : List ℕ) → ((i : ℕ) → getD bytes i 0 < 256) → (r : SchemeAnswer) → r ≡ readScheme bytes noScheme →
@@ -35,6 +37,11 @@ scheme-accepted bytes small r is n e =
 
 -- ---- what follows a reading, seen through what is left of it
 module _ {A L : Type 0} (left : A → L) (refused : ℕ → ℕ → ℕ → A) where
+  -- what a refused reading tells by its number and its position
+  told : (where′ : ℕ) (a : Reading) (k at : ℕ) → a ≡ Refused k at → (n p : ℕ) → n ≡ ofReading a .number → p ≡ readingPlace a →
+      left (refused n where′ p) ≡ left (refused k where′ at)
+  told where′ a k at e n p f g = rw (f ∙ ap (λ x. ofReading x .number) e, g ∙ ap readingPlace e)
+
   module _ (next : Scheme → ℕ → A) (bytes : List ℕ) (r : SchemeAnswer) (is : r ≡ readScheme bytes noScheme) where
     with-scheme : afterScheme refused next (r .scheme) (r .answer) ≡ withScheme refused bytes next
     unfolding withScheme
@@ -43,8 +50,9 @@ module _ {A L : Type 0} (left : A → L) (refused : ℕ → ℕ → ℕ → A) w
     pub scheme-read : {l : L} (n : ℕ) → r .answer ≡ Done n → l ≡ left (next (r .scheme) n) → l ≡ left (withScheme refused bytes next)
     scheme-read n e f = f ∙ ap left (rw e at with-scheme)
 
-    pub scheme-refused : {l : L} (k at : ℕ) → r .answer ≡ Refused k at → l ≡ left (refused k 1 at) → l ≡ left (withScheme refused bytes next)
-    scheme-refused k at e f = f ∙ ap left (rw e at with-scheme)
+    pub scheme-refused : {l : L} (k at : ℕ) → r .answer ≡ Refused k at → (n p : ℕ) → n ≡ ofReading (r .answer) .number → p ≡ readingPlace (r .answer) →
+        l ≡ left (refused n 1 p) → l ≡ left (withScheme refused bytes next)
+    scheme-refused k at e n p f g h = h ∙ told 1 (r .answer) k at e n p f g ∙ ap left (rw e at with-scheme)
 
   module _ (next : Matrix → ℕ → A) (bytes : List ℕ) (s : Scheme) (ok : T (acceptedScheme s)) (h : Head) (its : s .head ≡ h)
       (things : Things) (none : things ≡ noThings) (r : MatrixAnswer) (cells : List ℕ)
@@ -60,8 +68,9 @@ module _ {A L : Type 0} (left : A → L) (refused : ℕ → ℕ → ℕ → A) w
         l ≡ left (withMatrix refused s bytes next)
     matrix-read n e f = f ∙ ap left (rw e at with-matrix)
 
-    pub matrix-refused : {l : L} (k at : ℕ) → r .answer ≡ Refused k at → l ≡ left (refused k 2 at) → l ≡ left (withMatrix refused s bytes next)
-    matrix-refused k at e f = f ∙ ap left (rw e at with-matrix)
+    pub matrix-refused : {l : L} (k at : ℕ) → r .answer ≡ Refused k at → (n p : ℕ) → n ≡ ofReading (r .answer) .number → p ≡ readingPlace (r .answer) →
+        l ≡ left (refused n 2 p) → l ≡ left (withMatrix refused s bytes next)
+    matrix-refused k at e n p f g h = h ∙ told 2 (r .answer) k at e n p f g ∙ ap left (rw e at with-matrix)
 
 -- ---- what is left beside the buffers
 module _ (report : List ℕ) (n : ℕ) (report′ : List ℕ) where

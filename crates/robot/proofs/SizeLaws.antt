@@ -10,13 +10,15 @@ use Rattle.model.specs.Scheme.{isSubject}
 use Rattle.model.specs.Seats.{Matrix, cell}
 use Rattle.model.specs.Accepted.{acceptedMatrix}
 use Rattle.model.specs.declared.Head.{Head}
-use Rattle.model.proofs.HeldLaws.{held}
 use Rattle.records.specs.Bytes.{recordBytes}
 use Rattle.records.proofs.BytesLaws.{length-record}
-use Rattle.matrix_bytes.specs.Content.{Thing, Cell, thingsOf, rowOf, rowsOf, cellsOf}
-use Rattle.matrix_bytes.specs.Write.{thingRecords, cellRecords, matrixBytes}
+use Rattle.matrix_bytes.specs.Content.{thingsOf, rowOf, rowsOf, cellsOf}
+use Rattle.matrix_bytes.specs.Write.{matrixBytes}
 use Rattle.matrix_bytes.proofs.Rising.{rising-length}
-use Rattle.matrix_write.proofs.WriteLaws.{length-things, length-cells}
+use Rattle.matrix_records.proofs.Listed.{seated-length}
+use Rattle.matrix_write.proofs.WriteLaws.{length-things, length-cells, thingRecords, cellRecords}
+use Rattle.matrix_records.specs.Content.{ThingRecord, CellRecord, seated}
+use Rattle.matrix_records.specs.Write.{headBytes}
 
 either : {A : Type 0} (b : Bool) (xs ys : List A) (n : ℕ) → length xs ≤ n → length ys ≤ n → length (cond b xs ys) ≤ n
 either true xs ys n p q = p
@@ -24,32 +26,32 @@ either false xs ys n p q = q
 
 -- ---- cells
 module _ (m : Matrix) where
-  few-in-row : (x : ℕ) (ts : List Thing) → length (rowOf m x ts) ≤ length ts
+  few-in-row : (x : ℕ) (ts : List ThingRecord) → length (rowOf m x ts) ≤ length ts
   unfolding rowOf
   few-in-row x [] = omega arith
   few-in-row x (t ∷ ts) = let n = few-in-row x ts in either (eqb (cell m x (t .id)) 0) _ _ _ (omega arith) (omega arith)
 
-  few-cells : (h : Head) (columns ts : List Thing) → length columns ≤ 48 → length (rowsOf h m columns ts) ≤ length ts * 48
+  few-cells : (h : Head) (columns ts : List ThingRecord) → length columns ≤ 48 → length (rowsOf h m columns ts) ≤ length ts * 48
   unfolding rowsOf
   few-cells h columns [] l = omega arith
   few-cells h columns (t ∷ ts) l =
-      let row : List Cell = cond (isSubject h (t .type)) (rowOf m (t .id) columns) [] in
-      let a = either (isSubject h (t .type)) (rowOf m (t .id) columns) [] 48 (omega (arith, few-in-row (t .id) columns)) (omega arith) in
+      let row : List CellRecord = cond (isSubject h (t .thing .type)) (rowOf m (t .id) columns) [] in
+      let a = either (isSubject h (t .thing .type)) (rowOf m (t .id) columns) [] 48 (omega (arith, few-in-row (t .id) columns)) (omega arith) in
       omega (arith, length-append row (rowsOf h m columns ts), few-cells h columns ts l)
 
 -- ---- all of it
 pub largest : (h : Head) (m : Matrix) → T (acceptedMatrix h m) → length (matrixBytes h m) ≤ 37206
-unfolding matrixBytes cellsOf thingsOf
+unfolding matrixBytes cellsOf thingsOf headBytes
 largest h m of =
-    let ts : List Thing = thingsOf m in
-    let cs : List Cell = cellsOf h m in
-    let front : List ℕ = recordBytes 3 (h .rights ∷ length ts ∷ []) in
-    let n : length ts ≤ 48 = omega (arith, rising-length (m .things .ids) (m .things .types), held h m of .things .idRoom) in
+    let ts : List ThingRecord = thingsOf m in
+    let cs : List CellRecord = cellsOf h m in
+    let front : List ℕ = recordBytes 3 (headBytes (h .rights) (length ts)) in
+    let n : length ts ≤ 48 = omega (arith, rising-length (seated (m .things)), seated-length (m .things)) in
     omega (
       arith,
       length-append (front ++ thingRecords ts) (cellRecords cs),
       length-append front (thingRecords ts),
-      length-record 3 (h .rights ∷ length ts ∷ []),
+      length-record 3 (headBytes (h .rights) (length ts)),
       length-things ts,
       length-cells cs,
       few-cells m h ts ts n,

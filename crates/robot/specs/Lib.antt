@@ -1,3 +1,3 @@
--- What each function of the robots' library gives (`Library`), and what its inner functions give (`Parts`).
+-- What each function of the robots' library gives (`Library`), and what its inner functions give (`Inner`).
 pub mod Library
-pub mod Parts
+pub mod Inner

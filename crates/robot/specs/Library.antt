@@ -1,29 +1,30 @@
 -- The robots' library: functions on bytes and numbers only. Each gives a number, 0 for success, and puts five numbers into a lent report: where the
 -- fault lies, its position, how many answers were stored, how many bytes were written, and the number of a record of a list that can't be read.
 -- A call that gives a number other than 0 has stored nothing but the report. Assumes nothing.
-use Prim.Native.Nat.{ℕ}
+use Prim.Native.Nat.{ℕ, _*_}
 use mathlib.Core.Bool.{cond}
 use mathlib.Core.List.{List, [], _∷_}
 use lib.Dec.{leb, eqb}
 use lib.ListN.{length, replicate}
 use lib.Seq.{sets}
-use Rattle.model.specs.Request.{run, answers}
-use Rattle.model.specs.Seats.{Matrix, seats, noType}
+use Rattle.model.specs.Request.{run}
+use Rattle.model.specs.Answers.{replyWidth}
+use Rattle.model.specs.Seats.{Matrix, seats, noThings}
 use Rattle.model.specs.declared.Scheme.{Scheme}
-use Rattle.model.specs.declared.Things.{Things}
 use Rattle.records.specs.Writing.{placed}
 use Rattle.records.specs.declared.Reading.{Reading}
 use Rattle.records.specs.declared.Reading.the-variants.{Done, Refused}
 use Rattle.records.specs.declared.Writing.{Writing}
 use Rattle.records.specs.declared.Writing.the-variants as writing
-use Rattle.scheme_bytes.specs.Read.{noScheme}
 use Rattle.scheme_bytes.specs.Answers.{readScheme}
 use Rattle.matrix_bytes.specs.Answers.{readMatrix}
 use Rattle.matrix_bytes.specs.Write.{matrixBytes}
 use Rattle.matrix_bytes.specs.declared.answers.MatrixAnswer.{MatrixAnswer}
 use Rattle.request_bytes.specs.Write.{writeRequest}
-use Rattle.engine.specs.List.{Listed, listOf}
+use Rattle.request_list.specs.List.{Listed, readList}
+use Rattle.engine.specs.List.{repliesTo}
 use Rattle.convert.specs.Convert.{convertSchemeInto, convertMatrixInto}
+use Rattle.model.specs.Arrays.{noScheme}
 
 -- ---- what every function gives
 
@@ -50,9 +51,6 @@ gives report c = (c .number, reported report c)
 
 -- ---- what is read first: a scheme, and a matrix of it, from bytes. `refused` makes an answer of a number, where the fault lies and its position;
 -- `next` makes one of what was read and its length
-abbrev pub noThings : Things
-noThings = record { ids = replicate 48 0; types = replicate 48 noType }
-
 module _ {A : Type 0} (refused : ℕ → ℕ → ℕ → A) where
   abbrev pub afterScheme : (Scheme → ℕ → A) → Scheme → Reading → A
   afterScheme next s (Done n) = next s n
@@ -109,18 +107,18 @@ endedBy count written (Refused k at) = cutShort k at count written
 unfoldable pub runMatrix : Scheme → Matrix → Listed → List ℕ → List ℕ → Ran
 runMatrix s m l results out =
     let bytes = bytesAfter s m l in
-    cond (leb (length (l .requests)) (length results))
+    cond (leb (replyWidth * length (l .requests)) (length results))
     (cond (leb (length bytes) (length out))
     (record {
       called = endedBy (length (l .requests)) (length bytes) (l .ending);
-      answers = placed results 0 (answers seats s m (l .requests));
+      answers = placed results 0 (repliesTo s m (l .requests));
       out = placed out 0 bytes;
     })
     (notRun results out 9 5 0))
     (notRun results out 9 4 0)
 
 unfoldable pub runAgainst : List ℕ → List ℕ → List ℕ → List ℕ → Scheme → Ran
-runAgainst matrix requests results out s = withMatrix (notRun results out) s matrix (λ m k. runMatrix s m (listOf requests) results out)
+runAgainst matrix requests results out s = withMatrix (notRun results out) s matrix (λ m k. runMatrix s m (readList requests) results out)
 
 unfoldable pub runBytes : List ℕ → List ℕ → List ℕ → List ℕ → List ℕ → Ran
 runBytes scheme matrix requests results out = withScheme (notRun results out) scheme (λ s n. runAgainst matrix requests results out s)

@@ -1,9 +1,9 @@
 // The converted bytes of a scheme, and of a matrix of it.
-use crate::check::no_things;
 use crate::check::scheme_of;
 use crate::report::tell;
 use crate::report::tell_writing;
 use model::Scheme;
+use model::Things;
 use records::Reading;
 ghost use mathlib.Core.Path.{_≡_};
 ghost use mathlib.Core.List.{List};
@@ -22,14 +22,12 @@ pub extern "C" fn slushferret_convert_scheme(
 {
     let read = scheme_of(scheme);
     let answer = read.answer;
+    let Reading::Done { next: _ } = answer else {
+        return tell(report, answer.number(), 1, answer.at(), 0, 0);
+    };
     let s = read.scheme;
-    match answer {
-        Reading::Done { next: _ } => {
-            let written = convert::convert_scheme(out, s);
-            tell_writing(report, 1, written)
-        }
-        Reading::Refused { number, at } => tell(report, number, 1, at, 0, 0),
-    }
+    let written = convert::convert_scheme(out, s);
+    tell_writing(report, 1, written)
 }
 
 fn convert_of(s: Scheme, matrix: &[u8], out: &mut [u8], report: &mut [usize]) -> u8
@@ -37,17 +35,15 @@ fn convert_of(s: Scheme, matrix: &[u8], out: &mut [u8], report: &mut [usize]) ->
     ensures { λ r. ⌜ _≡_ {A = ℕ × List ℕ × List ℕ} (r, now (out .exit), now (report .exit)) (givesWrote (now (report .entry)) (convertAgainst (now (matrix .entry)) (now (out .entry)) s)) ⌝ }
 {
     let h = s.head;
-    let mut cells = [0u64; 2304];
-    let read = matrix_bytes::read_matrix_by_head(matrix, h, no_things(), &mut cells);
+    let mut cells = [0u64; Things::CELLS];
+    let read = matrix_bytes::read_matrix_by_head(matrix, h, things::no_things(), &mut cells);
     let answer = read.answer;
+    let Reading::Done { next: _ } = answer else {
+        return tell(report, answer.number(), 2, answer.at(), 0, 0);
+    };
     let things = read.things;
-    match answer {
-        Reading::Done { next: _ } => {
-            let written = convert::convert_matrix(out, s, things, &cells);
-            tell_writing(report, 1, written)
-        }
-        Reading::Refused { number, at } => tell(report, number, 2, at, 0, 0),
-    }
+    let written = convert::convert_matrix(out, s, things, &cells);
+    tell_writing(report, 1, written)
 }
 
 #[no_mangle]
@@ -61,9 +57,9 @@ pub extern "C" fn slushferret_convert_matrix(
 {
     let read = scheme_of(scheme);
     let answer = read.answer;
+    let Reading::Done { next: _ } = answer else {
+        return tell(report, answer.number(), 1, answer.at(), 0, 0);
+    };
     let s = read.scheme;
-    match answer {
-        Reading::Done { next: _ } => convert_of(s, matrix, out, report),
-        Reading::Refused { number, at } => tell(report, number, 1, at, 0, 0),
-    }
+    convert_of(s, matrix, out, report)
 }

@@ -1,10 +1,10 @@
 // A list of requests on a matrix in bytes, and a request's bytes.
-use crate::check::no_things;
 use crate::check::scheme_of;
 use crate::report::tell;
 use crate::report::tell_cut;
 use crate::report::tell_writing;
 use engine::RunAnswer;
+use model::Reply;
 use model::Scheme;
 use model::Things;
 use records::Reading;
@@ -14,10 +14,11 @@ ghost use mathlib.Core.List.{List};
 ghost use Prim.Native.Nat.{ℕ, _≤_};
 ghost use lib.Dec.{T};
 ghost use lib.ListN.{length};
+ghost use Rattle.model.specs.Seats.{matrixOf};
 ghost use Rattle.model.specs.Accepted.{acceptedScheme, acceptedMatrix};
-ghost use Rattle.engine.specs.List.{listOf};
+ghost use Rattle.request_list.specs.List.{readList};
 ghost use Rattle.robot.specs.Library.{gives, givesWrote, givesRan, bytesAfter, runMatrix, runAgainst, runBytes, requestBytes};
-ghost use Rattle.robot.specs.Parts.{countOf, nextOf, endingBy, neededBy};
+ghost use Rattle.robot.specs.Inner.Parts.{countOf, nextOf, endingBy, neededBy};
 
 // Every matrix's bytes fit into so many.
 const LARGEST: usize = 37206;
@@ -65,9 +66,9 @@ fn tell_ended(report: &mut [usize], answer: RunAnswer, written: usize) -> u8
 }
 
 // A run on a copy of the cells tells what it will give, before anything is stored.
-fn trial_of(s: Scheme, th: Things, cells: [u64; 2304], requests: &[u8]) -> Needed
-    requires { ⌜ T (acceptedScheme s) × T (acceptedMatrix (s .head) (record { things = th; cells = cells })) ⌝ }
-    ensures { λ r. ⌜ r ≡ neededBy s (record { things = th; cells = cells }) (listOf (now (requests .entry))) ⌝ }
+fn trial_of(s: Scheme, th: Things, cells: [u64; Things::CELLS], requests: &[u8]) -> Needed
+    requires { ⌜ T (acceptedScheme s) × T (acceptedMatrix (s .head) (matrixOf th cells)) ⌝ }
+    ensures { λ r. ⌜ r ≡ neededBy s (matrixOf th cells) (readList (now (requests .entry))) ⌝ }
 {
     let h = s.head;
     let mut trial = cells;
@@ -90,8 +91,8 @@ fn run_on(
     out: &mut [u8],
     report: &mut [usize],
 ) -> u8
-    requires { ⌜ T (acceptedScheme s) × T (acceptedMatrix (s .head) (record { things = th; cells = now cells })) × (length (bytesAfter s (record { things = th; cells = now cells }) (listOf (now requests))) ≤ length (now out)) ⌝ }
-    ensures { λ r. ⌜ _≡_ {A = ℕ × List ℕ × List ℕ × List ℕ} (r, now (answers .exit), now (out .exit), now (report .exit)) (givesRan (now (report .entry)) (runMatrix s (record { things = th; cells = now (cells .entry) }) (listOf (now (requests .entry))) (now (answers .entry)) (now (out .entry)))) ⌝ }
+    requires { ⌜ T (acceptedScheme s) × T (acceptedMatrix (s .head) (matrixOf th (now cells))) × (length (bytesAfter s (matrixOf th (now cells)) (readList (now requests))) ≤ length (now out)) ⌝ }
+    ensures { λ r. ⌜ _≡_ {A = ℕ × List ℕ × List ℕ × List ℕ} (r, now (answers .exit), now (out .exit), now (report .exit)) (givesRan (now (report .entry)) (runMatrix s (matrixOf th (now (cells .entry))) (readList (now (requests .entry))) (now (answers .entry)) (now (out .entry)))) ⌝ }
 {
     let h = s.head;
     let ran = engine::run_list(s, th, cells, requests, answers);
@@ -117,16 +118,16 @@ fn run_of(
     ensures { λ r. ⌜ _≡_ {A = ℕ × List ℕ × List ℕ × List ℕ} (r, now (answers .exit), now (out .exit), now (report .exit)) (givesRan (now (report .entry)) (runAgainst (now (matrix .entry)) (now (requests .entry)) (now (answers .entry)) (now (out .entry)) s)) ⌝ }
 {
     let h = s.head;
-    let mut cells = [0u64; 2304];
-    let read = matrix_bytes::read_matrix_by_head(matrix, h, no_things(), &mut cells);
+    let mut cells = [0u64; Things::CELLS];
+    let read = matrix_bytes::read_matrix_by_head(matrix, h, things::no_things(), &mut cells);
     let answer = read.answer;
     let things = read.things;
-    if let Reading::Refused { number, at } = answer {
-        return tell(report, number, 2, at, 0, 0);
-    }
+    let Reading::Done { next: _ } = answer else {
+        return tell(report, answer.number(), 2, answer.at(), 0, 0);
+    };
     if out.len() < LARGEST {
         let need = trial_of(s, things, cells, requests);
-        if answers.len() < need.answers {
+        if answers.len() / Reply::WIDTH < need.answers {
             return tell(report, 9, 4, 0, 0, 0);
         }
         if out.len() < need.bytes {
@@ -149,11 +150,11 @@ pub extern "C" fn slushferret_run(
 {
     let read = scheme_of(scheme);
     let answer = read.answer;
+    let Reading::Done { next: _ } = answer else {
+        return tell(report, answer.number(), 1, answer.at(), 0, 0);
+    };
     let s = read.scheme;
-    match answer {
-        Reading::Done { next: _ } => run_of(s, matrix, requests, answers, out, report),
-        Reading::Refused { number, at } => tell(report, number, 1, at, 0, 0),
-    }
+    run_of(s, matrix, requests, answers, out, report)
 }
 
 #[no_mangle]

@@ -9,24 +9,26 @@ use mathlib.Core.List.{List, [], _∷_, append-nil}
 use lib.Dec.{T, eqb, eqb→eq, eqb-refl}
 use lib.ListN.{length}
 use lib.Seq.{take-at, drop-length}
-use Rattle.model.specs.Check.{passes, all}
+use Rattle.laws.specs.Check.{passes, all, padded}
 use Rattle.model.specs.Scheme.{commandsOf}
-use Rattle.model.specs.Accepted.{headFault, zeroCommand, padded, acceptedCommand, acceptedScheme}
-use Rattle.model.specs.declared.Command.{Command}
-use Rattle.model.specs.declared.Head.{Head}
+use Rattle.model.specs.Accepted.{headFault, zeroCommand, acceptedCommand, acceptedScheme}
 use Rattle.model.specs.declared.Scheme.{Scheme}
-use Rattle.model.proofs.Bools.{is-true, and-left, and-right, and-both}
+use Rattle.laws.proofs.Bools.{is-true, and-left, and-right, and-both}
 use Rattle.records.specs.Bytes.{littleEndian}
-use Rattle.records.specs.Reading.{Read, got, fault, Reader, bind, done, steps, _>>=_, _>>_}
-use Rattle.records.specs.Front.{Refusal, inRecord}
+use Rattle.records.specs.Reading.{Read, got, fault, Reader, bind, done, _>>=_, _>>_}
+use Rattle.records.specs.Front.{Refusal}
 use Rattle.records.proofs.Trip.{Bytes, Stand, Trip, input, OkAll, got-value, got-left, never, bind-got, trip-as, trip-then, trip-last, trip-steps}
 use Rattle.records.proofs.TripRecord.{trip-kind}
-use Rattle.scheme_bytes.specs.Read.{head, command, schemeOf, atEnd, schemeRest, scheme}
-use Rattle.scheme_bytes.specs.Write.{headBytes, schemeBytes}
+use Rattle.command_bytes.specs.Read.{headAt}
+use Rattle.command_bytes.specs.Write.{headBytes}
+use Rattle.command_bytes.proofs.Trips.{head-fits, head-few, head-trip}
+use Rattle.command_bytes.proofs.Padded.{no-command}
+use Rattle.command_bytes.proofs.CommandTrip.{command-trip, command-size}
+use Rattle.scheme_bytes.specs.Read.{commands, atEnd, schemeRest, scheme}
+use Rattle.scheme_bytes.specs.Write.{schemeBytes}
 use Rattle.scheme_bytes.specs.Promises.{RoundTrips}
-use Rattle.scheme_bytes.proofs.Trips.{head-fits, head-few, head-trip}
-use Rattle.scheme_bytes.proofs.Padded.{pad, unpad, no-command}
-use Rattle.scheme_bytes.proofs.CommandTrip.{each-same, command-trip, command-size}
+use Rattle.model.specs.Arrays.{schemeOf}
+use Rattle.laws.proofs.Padded.{pad, unpad}
 
 module _ {A : Type 0} (f : A → Bool) where
   pub each-all : (xs : List A) → OkAll (λ (u : Unit {0}) a. u) (λ u a. T (f a)) tt xs → T (all f xs)
@@ -64,12 +66,9 @@ module _ (x : Scheme) where
       search (each-all, and-both)
 
 -- ---- all but the end
-abbrev pub commands : List ℕ → Head → Reader ℕ Refusal (List Command)
-commands s h = steps (λ (u : Unit {0}). inRecord s 4 (λ kind. command h)) (λ u c. u) (h .count) tt
-
 abbrev pub parts : List ℕ → Reader ℕ Refusal Scheme
 parts s = do
-  h ← inRecord s 2 (λ kind. head)
+  h ← headAt s
   cs ← commands s h
   done (schemeOf h cs)
 
@@ -81,7 +80,7 @@ parts-trip s =
     trip-last
     (trip-steps (λ (u : Unit {0}). trip-kind s 2 (omega arith) (command-trip h (head-few h lh)) (command-size h)) (λ u c. u) (h .count) tt)
     (schemeOf h) commandsOf λ cs l. take-at cs _ (h .count) (l .1))
-    (λ x o. simp each-same)
+    (λ x o. refl)
     (λ x o. parts-accepted x (record { head = o .0; commands = o .1 .0 .0; long = o .1 .0 .1; whole = o .1 .1 }))
     (λ x o. let p = accepted-parts x o in (p .head, ((p .commands, p .long), p .whole)))
 
@@ -98,7 +97,7 @@ module _ {I F C : Type 0} (end : Reader I F Unit) where
 
 pub scheme-ends : (s : List ℕ) (at : ℕ) → scheme s at ≡ bind (parts s at) (λ x. atEnd s >> done x)
 unfolding scheme schemeRest
-scheme-ends s at = bind-ends (atEnd s) (inRecord s 2 (λ kind. head) at) (commands s) schemeOf
+scheme-ends s at = bind-ends (atEnd s) (headAt s at) (commands s) schemeOf
 
 pub end-there : (s : List ℕ) → atEnd s (length s) ≡ got tt (length s)
 unfolding atEnd

@@ -1,7 +1,6 @@
-// A scheme from bytes. Its writer stands in `scheme_write`, so that a change of one rechecks only that one.
+// A scheme from bytes: the records that `command_bytes` reads, one behind the other, and the end. Its writer stands in `scheme_write`, so that a change of
+// one rechecks only that one.
 mod answers;
-mod command;
-mod fields;
 mod none;
 mod read;
 mod reader;

@@ -1,94 +1,47 @@
-// Reading a scheme on a slice and a position: its head, its commands one by one, and the end.
+// Reading a scheme on a slice and a position: its commands one by one, and what is behind its head.
 use crate::answers::CommandsAnswer;
-use crate::answers::HeadAnswer;
-use crate::answers::HeadAt;
 use crate::answers::SchemeAnswer;
-use crate::command::read_command;
-use crate::fields::head_of;
-use crate::none::no_command;
+use command_bytes::HeadAt;
+use command_bytes::no_command;
+use command_bytes::read_command;
 use model::Head;
 use model::Scheme;
-use records::Kinds;
 use records::Reading;
-use records::RecordAnswer;
 ghost use mathlib.Core.Path.{_≡_};
 ghost use Prim.Native.Nat.{_≤_};
-ghost use Rattle.records.specs.Reading.{steps, fault};
-ghost use Rattle.records.specs.Front.{inRecord, refusalOf};
-ghost use Rattle.scheme_bytes.specs.Read.{command};
-ghost use Rattle.scheme_bytes.specs.Answers.{asHeadAt, asCommandsAt, asScheme, readHead, readRest};
+ghost use Rattle.records.specs.Reading.{fault};
+ghost use Rattle.scheme_bytes.specs.Read.{commands};
+ghost use Rattle.scheme_bytes.specs.Answers.{asScheme};
+ghost use Rattle.scheme_bytes.specs.Inner.Answers.{asCommands, readRest};
 
-// ---- the head
-
-fn passed_up_head(found: RecordAnswer) -> HeadAt
-    ensures { λ r. ⌜ r ≡ asHeadAt (refusalOf found) ⌝ }
-{
-    match found {
-        RecordAnswer::Refused { number, at } => HeadAt::Refused { number, at },
-        RecordAnswer::Record {
-            kind: _,
-            start: _,
-            len: _,
-        } => HeadAt::Refused { number: 0, at: 0 },
-    }
-}
-
-// The head's record at a position.
-pub(crate) fn read_head(s: &[u8], at: usize) -> HeadAt
-    ensures { λ r. ⌜ r ≡ readHead (now (s .entry)) at ⌝ }
-{
-    let found = records::record_at(s, at, Kinds(2));
-    let RecordAnswer::Record {
-        kind: _,
-        start,
-        len,
-    } = found
-    else {
-        return passed_up_head(found);
-    };
-    match head_of(records::body(s, start, len)) {
-        HeadAnswer::Good(head) => HeadAt::Good {
-            head,
-            next: start + len,
-        },
-        HeadAnswer::Fault(number) => HeadAt::Refused { number, at },
-    }
-}
-
-// ---- the commands
-
-fn none_at(number: u8, at: usize) -> CommandsAnswer
-    ensures { λ r. ⌜ r ≡ asCommandsAt (fault (record { number = number; at = at })) ⌝ }
+fn no_commands(number: u8, at: usize) -> CommandsAnswer
+    ensures { λ r. ⌜ r ≡ asCommands (fault (record { number = number; at = at })) ⌝ }
 {
     let none = no_command();
     CommandsAnswer {
         answer: Reading::Refused { number, at },
-        commands: [none; 32],
+        commands: [none; Scheme::PLACES],
     }
 }
 
 fn read_commands(s: &[u8], at: usize, h: Head) -> CommandsAnswer
     requires { ⌜ h .count ≤ 32 ⌝ }
-    ensures { λ r. ⌜ r ≡ asCommandsAt (steps (λ (u : Unit {0}). inRecord (now (s .entry)) 4 (λ kind. command h)) (λ u c. u) (h .count) tt at) ⌝ }
+    ensures { λ r. ⌜ r ≡ asCommands (commands (now (s .entry)) h at) ⌝ }
 {
     let n = h.count as usize;
     let none = no_command();
-    let mut commands = [none; 32];
+    let mut commands = [none; Scheme::PLACES];
     let mut p = at;
     let mut j: usize = 0;
     while j < n {
         let read = read_command(s, p, h);
-        let answer = read.answer;
         let command = read.command;
-        match answer {
-            Reading::Done { next } => {
-                commands[j] = command;
-                p = next;
-            }
-            Reading::Refused { number, at: q } => {
-                return none_at(number, q);
-            }
-        }
+        let answer = read.answer;
+        let Reading::Done { next } = answer else {
+            return no_commands(answer.number(), answer.at());
+        };
+        commands[j] = command;
+        p = next;
         j += 1;
     }
     CommandsAnswer {
@@ -97,9 +50,7 @@ fn read_commands(s: &[u8], at: usize, h: Head) -> CommandsAnswer
     }
 }
 
-// ---- the scheme
-
-fn refused_scheme(number: u8, at: usize, table: Scheme) -> SchemeAnswer
+fn refused(number: u8, at: usize, table: Scheme) -> SchemeAnswer
     ensures { λ r. ⌜ r ≡ asScheme table (fault (record { number = number; at = at })) ⌝ }
 {
     SchemeAnswer {
@@ -112,27 +63,23 @@ fn refused_scheme(number: u8, at: usize, table: Scheme) -> SchemeAnswer
 pub(crate) fn read_rest(s: &[u8], found: HeadAt, table: Scheme) -> SchemeAnswer
     ensures { λ r. ⌜ r ≡ readRest (now (s .entry)) found table ⌝ }
 {
-    match found {
-        HeadAt::Refused { number, at } => refused_scheme(number, at, table),
-        HeadAt::Good { head, next: from } => {
-            if 32 < head.count {
-                return refused_scheme(4, from, table);
-            }
-            let read = read_commands(s, from, head);
-            let answer = read.answer;
-            let commands = read.commands;
-            match answer {
-                Reading::Refused { number, at } => refused_scheme(number, at, table),
-                Reading::Done { next } => {
-                    if next != s.len() {
-                        return refused_scheme(8, next, table);
-                    }
-                    SchemeAnswer {
-                        answer: Reading::Done { next },
-                        scheme: Scheme { head, commands },
-                    }
-                }
-            }
-        }
+    let HeadAt::Good { head, next: from } = found else {
+        return refused(found.number(), found.at(), table);
+    };
+    if Scheme::LIMIT < head.count {
+        return refused(4, from, table);
+    }
+    let read = read_commands(s, from, head);
+    let commands = read.commands;
+    let answer = read.answer;
+    let Reading::Done { next } = answer else {
+        return refused(answer.number(), answer.at(), table);
+    };
+    if next != s.len() {
+        return refused(8, next, table);
+    }
+    SchemeAnswer {
+        answer: Reading::Done { next },
+        scheme: Scheme { head, commands },
     }
 }

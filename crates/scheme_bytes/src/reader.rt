@@ -1,14 +1,16 @@
 // A scheme is a head and its commands, then the end: the thin reader that holds the slice. The borrow checker covers no function over
-// such a struct, so each is straight-line, calls the covered functions of `read`, and is proved by hand.
-use crate::answers::HeadAt;
+// such a struct, so each is straight-line, calls the covered functions, and is proved by hand.
 use crate::answers::SchemeAnswer;
-use crate::read::read_head;
 use crate::read::read_rest;
+use command_bytes::HeadAt;
+use command_bytes::read_head;
 use model::Scheme;
 ghost use mathlib.Core.Path.{_≡_};
-ghost use Rattle.scheme_bytes.specs.Answers.{readHead, readRest, readScheme};
+ghost use Rattle.command_bytes.specs.Answers.{readHead};
+ghost use Rattle.scheme_bytes.specs.Answers.{readScheme};
+ghost use Rattle.scheme_bytes.specs.Inner.Answers.{readRest};
 
-pub struct SchemeReader<'a> {
+pub(crate) struct SchemeReader<'a> {
     pub input: &'a [u8],
 }
 

@@ -11,27 +11,30 @@ use lib.ListN.{length, take, drop, getD, set, length-append, length-take, drop-o
 use lib.Seq.{sets, length-sets, getD-take, length-take-le}
 use mir.Val.{boolByte}
 use borrow.Author.Tests.{le-leb}
-use Rattle.model.specs.Check.{all}
+use Rattle.rights.specs.Numberings.{rightByte, parameterByte}
+use Rattle.laws.specs.Check.{all, padded}
 use Rattle.model.specs.Scheme.{parametersOf, testsOf, operationsOf, commandsOf}
-use Rattle.model.specs.Accepted.{padded, paddedCommand, acceptedCommand, acceptedScheme}
+use Rattle.model.specs.Accepted.{paddedCommand, acceptedCommand, acceptedScheme}
 use Rattle.model.specs.declared.Test.{Test}
 use Rattle.model.specs.declared.Operation.{Operation}
 use Rattle.model.specs.declared.Command.{Command}
 use Rattle.model.specs.declared.Head.{Head}
 use Rattle.model.specs.declared.Scheme.{Scheme}
-use Rattle.model.proofs.Bools.{and-left, and-right}
+use Rattle.laws.proofs.Bools.{and-left, and-right}
 use Rattle.model.proofs.Form.{all-at}
-use Rattle.accepted.proofs.Walks.{turn-used}
-use Rattle.records.specs.Bytes.{littleEndian, recordBytes}
+use Rattle.laws.proofs.Walks.{turn-used}
+use Rattle.records.specs.Bytes.{littleEndian, recordBytes, eachBytes}
 use Rattle.records.specs.Writing.{placed, writeBytes}
 use Rattle.records.specs.declared.Writing.{Writing}
 use Rattle.records.specs.declared.Writing.the-variants.{Done, Refused}
 use Rattle.records.proofs.BytesLaws.{length-littleEndian, length-record, sets-append, record-stored}
 use Rattle.records.proofs.PlacedLaws.{placed-none, placed-sets, part-placed, length-placed, placed-behind, write-short}
 use Rattle.records.proofs.Trip.{OkAll, length-all}
-use Rattle.scheme_bytes.specs.Write.{headBytes, typeBytes, testBytes, operationBytes, codeNumber, eachBytes, commandBytes, schemeBytes, writeScheme, Small}
-use Rattle.scheme_bytes.proofs.Trips.{head-fits}
-use Rattle.scheme_bytes.proofs.CommandTrip.{each-same, accepted-back}
+use Rattle.command_bytes.specs.Write.{headBytes, typeBytes, testBytes, operationBytes, codeNumber, commandBytes}
+use Rattle.scheme_bytes.specs.Write.{schemeBytes, writeScheme}
+use Rattle.scheme_write.specs.Inner.Small.{Small}
+use Rattle.command_bytes.proofs.Trips.{head-fits}
+use Rattle.command_bytes.proofs.CommandTrip.{accepted-back}
 use Rattle.scheme_bytes.proofs.RoundTrips.{accepted-parts}
 
 -- ---- the first n elements of an array, one a turn, after j turns
@@ -109,24 +112,26 @@ pub head-stored : (l : List ℕ) (h : Head) →
 unfolding headBytes littleEndian
 head-stored l h = record-stored l 1 5 (headBytes h) refl
 
-four-stored : (l : List ℕ) (i a b c d : ℕ) → set (set (set (set l i a) (i + 1) b) (i + 2) c) (i + 3) d ≡ sets l i (a ∷ b ∷ c ∷ d ∷ [])
-four-stored l i a b c d =
-    let (e, f, g) : (i + 1 ≡ suc i) × (i + 2 ≡ suc (suc i)) × (i + 3 ≡ suc (suc (suc i))) = (omega arith, omega arith, omega arith) in
-    rw (e, f, g)
+pub named-stored : (l : List ℕ) (i a b c : ℕ) → set (set (set l i a) (i + 1) b) (i + 2) c ≡ sets l i (a ∷ b ∷ c ∷ [])
+named-stored l i a b c =
+    let (e, f) : (i + 1 ≡ suc i) × (i + 2 ≡ suc (suc i)) = (omega arith, omega arith) in
+    rw (e, f)
 
 sense-byte : (b : Bool) → boolByte b ≡ cond b 1 0
 sense-byte true = refl
 sense-byte false = refl
 
-pub test-stored : (l : List ℕ) (i : ℕ) (t : Test) →
-    set (set (set (set l i (boolByte (t .present))) (i + 1) (t .right .0)) (i + 2) (t .row .0)) (i + 3) (t .column .0) ≡ sets l i (testBytes t)
-unfolding testBytes
-test-stored l i t = rw sense-byte (four-stored l i _ _ _ _)
+module _ (l : List ℕ) (i : ℕ) where
+  pub test-stored : (t : Test) →
+      sets (set l i (boolByte (t .present))) (i + 1) (rightByte (t .right) ∷ parameterByte (t .row) ∷ parameterByte (t .column) ∷ []) ≡ sets l i (testBytes t)
+  unfolding testBytes
+  test-stored t = rw (sense-byte, add-one)
 
-pub operation-stored : (l : List ℕ) (i : ℕ) (o : Operation) →
-    set (set (set (set l i (codeNumber (o .code))) (i + 1) (o .right .0)) (i + 2) (o .row .0)) (i + 3) (o .column .0) ≡ sets l i (operationBytes o)
-unfolding operationBytes
-operation-stored l i o = four-stored l i _ _ _ _
+  pub operation-stored : (o : Operation) →
+      sets (set l i (codeNumber (o .code))) (i + 1) (rightByte (o .right) ∷ parameterByte (o .row) ∷ parameterByte (o .column) ∷ [])
+      ≡ sets l i (operationBytes o)
+  unfolding operationBytes
+  operation-stored o = rw add-one
 
 -- three lists, each behind its count
 three-stored : (l : List ℕ) (k m n : ℕ) (x y z : List ℕ) (p q : ℕ) → p ≡ 5 + length x → q ≡ p + 1 + length y →
@@ -139,32 +144,32 @@ abbrev pub commandRecord : Command → List ℕ
 commandRecord c = recordBytes 2 (commandBytes c)
 
 module _ (c : Command) (s : Small c) where
-  types-long : length (parametersOf c) ≡ c .parameters .count
+  types-long : length (parametersOf (c .parameters)) ≡ c .parameters .count
   types-long = length-take-le (c .parameters .count) (c .parameters .types) (omega arith)
 
-  tests-long : length (testsOf c) ≡ c .tests .count
+  tests-long : length (testsOf (c .tests)) ≡ c .tests .count
   tests-long = length-take-le (c .tests .count) (c .tests .list) (omega arith)
 
-  operations-long : length (operationsOf c) ≡ c .operations .count
+  operations-long : length (operationsOf (c .operations)) ≡ c .operations .count
   operations-long = length-take-le (c .operations .count) (c .operations .list) (omega arith)
 
-  length-types : length (eachBytes typeBytes (parametersOf c)) ≡ c .parameters .count
+  length-types : length (eachBytes typeBytes (parametersOf (c .parameters))) ≡ c .parameters .count
   unfolding typeBytes
-  length-types = omega (arith, types-long, rw each-same at (length-all typeBytes 1 (λ t. refl) (parametersOf c)))
+  length-types = omega (arith, types-long, length-all typeBytes 1 (λ t. refl) (parametersOf (c .parameters)))
 
-  length-tests : length (eachBytes testBytes (testsOf c)) ≡ 4 * c .tests .count
+  length-tests : length (eachBytes testBytes (testsOf (c .tests))) ≡ 4 * c .tests .count
   unfolding testBytes
-  length-tests = omega (arith, tests-long, rw each-same at (length-all testBytes 4 (λ t. refl) (testsOf c)))
+  length-tests = omega (arith, tests-long, length-all testBytes 4 (λ t. refl) (testsOf (c .tests)))
 
-  length-operations : length (eachBytes operationBytes (operationsOf c)) ≡ 4 * c .operations .count
+  length-operations : length (eachBytes operationBytes (operationsOf (c .operations))) ≡ 4 * c .operations .count
   unfolding operationBytes
-  length-operations = omega (arith, operations-long, rw each-same at (length-all operationBytes 4 (λ t. refl) (operationsOf c)))
+  length-operations = omega (arith, operations-long, length-all operationBytes 4 (λ t. refl) (operationsOf (c .operations)))
 
   pub length-command : length (commandBytes c) ≡ 3 + c .parameters .count + 4 * c .tests .count + 4 * c .operations .count
   unfolding commandBytes
   length-command =
       let (x, y, z) : List ℕ × List ℕ × List ℕ =
-      (eachBytes typeBytes (parametersOf c), eachBytes testBytes (testsOf c), eachBytes operationBytes (operationsOf c)) in
+      (eachBytes typeBytes (parametersOf (c .parameters)), eachBytes testBytes (testsOf (c .tests)), eachBytes operationBytes (operationsOf (c .operations))) in
       omega (
         arith,
         length-append (x ++ c .tests .count ∷ y) (c .operations .count ∷ z),
@@ -179,13 +184,13 @@ module _ (c : Command) (s : Small c) where
 
   pub command-stored : (l : List ℕ) (len : ℕ) → len ≡ length (commandBytes c) →
       sets (set (sets (set (sets (set (sets (sets l 0 (littleEndian 2 len)) 2 (littleEndian 2 2)) 4 (c .parameters .count)) 5
-      (eachBytes typeBytes (parametersOf c))) (5 + c .parameters .count) (c .tests .count)) (5 + c .parameters .count + 1)
-      (eachBytes testBytes (testsOf c))) (5 + c .parameters .count + 1 + 4 * c .tests .count) (c .operations .count))
-      (5 + c .parameters .count + 1 + 4 * c .tests .count + 1) (eachBytes operationBytes (operationsOf c)) ≡ sets l 0 (commandRecord c)
+      (eachBytes typeBytes (parametersOf (c .parameters)))) (5 + c .parameters .count) (c .tests .count)) (5 + c .parameters .count + 1)
+      (eachBytes testBytes (testsOf (c .tests)))) (5 + c .parameters .count + 1 + 4 * c .tests .count) (c .operations .count))
+      (5 + c .parameters .count + 1 + 4 * c .tests .count + 1) (eachBytes operationBytes (operationsOf (c .operations))) ≡ sets l 0 (commandRecord c)
   unfolding commandBytes
   command-stored l len e =
       three-stored (sets (sets l 0 (littleEndian 2 len)) 2 (littleEndian 2 2)) (c .parameters .count) (c .tests .count) (c .operations .count)
-      (eachBytes typeBytes (parametersOf c)) (eachBytes testBytes (testsOf c)) (eachBytes operationBytes (operationsOf c)) _ _
+      (eachBytes typeBytes (parametersOf (c .parameters))) (eachBytes testBytes (testsOf (c .tests))) (eachBytes operationBytes (operationsOf (c .operations))) _ _
       (omega (arith, length-types)) (omega (arith, length-tests)) ∙ record-stored l 2 len (commandBytes c) e
 
 -- ---- the commands of an accepted scheme, and what stands past the end of the array that holds them

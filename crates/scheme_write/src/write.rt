@@ -10,18 +10,22 @@ use model::Scheme;
 use model::Test;
 use model::Tests;
 use records::Writing;
+use rights::Parameter;
+use rights::Right;
 ghost use mathlib.Core.Path.{_≡_};
-ghost use mathlib.Core.List.{List};
+ghost use mathlib.Core.List.{List, [], _∷_};
 ghost use Prim.Native.Nat.{ℕ, _+_, _*_, _≤_, _<_};
 ghost use lib.ListN.{length};
 ghost use lib.Seq.{sets};
 ghost use lib.Dec.{T};
+ghost use Rattle.rights.specs.Numberings.{rightByte, parameterByte};
 ghost use Rattle.model.specs.Accepted.{acceptedScheme};
-ghost use Rattle.model.specs.Scheme.{commandsOf};
-ghost use Rattle.records.specs.Bytes.{recordBytes};
+ghost use Rattle.model.specs.Scheme.{commandsOf, parametersOf, testsOf, operationsOf};
+ghost use Rattle.records.specs.Bytes.{recordBytes, eachBytes};
 ghost use Rattle.records.specs.Writing.{placed};
-ghost use Rattle.accepted.specs.Answers.{typesOf, listOf, bodyOf};
-ghost use Rattle.scheme_bytes.specs.Write.{headBytes, typeBytes, testBytes, operationBytes, codeNumber, eachBytes, commandBytes, writeScheme, Small};
+ghost use Rattle.command_bytes.specs.Write.{headBytes, typeBytes, testBytes, operationBytes, codeNumber, commandBytes};
+ghost use Rattle.scheme_bytes.specs.Write.{writeScheme};
+ghost use Rattle.scheme_write.specs.Inner.Small.{Small};
 
 fn code_number(code: Code) -> u8
     ensures { λ r. ⌜ r ≡ codeNumber code ⌝ }
@@ -47,15 +51,25 @@ fn put_head(part: &mut [u8], h: Head)
 
 fn put_types(part: &mut [u8], i: usize, p: Parameters)
     requires { ⌜ (i ≤ 1024) × (p .count ≤ 8) ⌝ }
-    ensures { λ _. ⌜ now (part .exit) ≡ sets (now (part .entry)) i (eachBytes typeBytes (typesOf p)) ⌝ }
+    ensures { λ _. ⌜ now (part .exit) ≡ sets (now (part .entry)) i (eachBytes typeBytes (parametersOf p)) ⌝ }
 {
     let n = p.count as usize;
     let mut j: usize = 0;
     while j < n {
         let t = p.types[j];
-        records::put1(part, i + j, t.0);
+        records::put1(part, i + j, t.byte());
         j += 1;
     }
+}
+
+// What a test names behind its sense, and an operation behind its code.
+fn put_named(part: &mut [u8], i: usize, right: Right, row: Parameter, column: Parameter)
+    requires { ⌜ i ≤ 4097 ⌝ }
+    ensures { λ _. ⌜ now (part .exit) ≡ sets (now (part .entry)) i (rightByte right ∷ parameterByte row ∷ parameterByte column ∷ []) ⌝ }
+{
+    records::put1(part, i, right.byte());
+    records::put1(part, i + 1, row.byte());
+    records::put1(part, i + 2, column.byte());
 }
 
 fn put_test(part: &mut [u8], i: usize, t: Test)
@@ -66,14 +80,12 @@ fn put_test(part: &mut [u8], i: usize, t: Test)
     let row = t.row;
     let column = t.column;
     records::put1(part, i, t.present as u8);
-    records::put1(part, i + 1, right.0);
-    records::put1(part, i + 2, row.0);
-    records::put1(part, i + 3, column.0);
+    put_named(part, i + 1, right, row, column);
 }
 
 fn put_tests(part: &mut [u8], i: usize, t: Tests)
     requires { ⌜ (i ≤ 1024) × (t .count ≤ 16) ⌝ }
-    ensures { λ _. ⌜ now (part .exit) ≡ sets (now (part .entry)) i (eachBytes testBytes (listOf t)) ⌝ }
+    ensures { λ _. ⌜ now (part .exit) ≡ sets (now (part .entry)) i (eachBytes testBytes (testsOf t)) ⌝ }
 {
     let n = t.count as usize;
     let mut j: usize = 0;
@@ -93,14 +105,12 @@ fn put_operation(part: &mut [u8], i: usize, o: Operation)
     let row = o.row;
     let column = o.column;
     records::put1(part, i, code_number(code));
-    records::put1(part, i + 1, right.0);
-    records::put1(part, i + 2, row.0);
-    records::put1(part, i + 3, column.0);
+    put_named(part, i + 1, right, row, column);
 }
 
 fn put_operations(part: &mut [u8], i: usize, o: Operations)
     requires { ⌜ (i ≤ 1024) × (o .count ≤ 32) ⌝ }
-    ensures { λ _. ⌜ now (part .exit) ≡ sets (now (part .entry)) i (eachBytes operationBytes (bodyOf o)) ⌝ }
+    ensures { λ _. ⌜ now (part .exit) ≡ sets (now (part .entry)) i (eachBytes operationBytes (operationsOf o)) ⌝ }
 {
     let n = o.count as usize;
     let mut j: usize = 0;

@@ -1,11 +1,11 @@
 -- That every public function of every library crate has a tight contract: of each, how its ending is read off what the equation `p` determines. The result
 -- comes first, then a place for each parameter: what was lent, or `tt`; `z` fills in behind the last that was lent. Assumes nothing.
-use Rattle.tight.specs.Functions.{Rights, Accepted, Records, SchemeBytes, SchemeWrite, MatrixBytes, MatrixWrite, RequestBytes, Engine, Totals, Convert, Printout, Robot}
+use Rattle.tight.specs.Functions.{Rights, Accepted, Things, Records, AcceptedMatrix, CommandBytes, SchemeBytes, SchemeWrite, MatrixRecords, MatrixBytes, MatrixWrite, RequestBytes, RequestList, Plan, Engine, Totals, Convert, Lines, Printout, Robot}
 use Rattle.tight.proofs.General.{equation}
 
 pub rights : (M : Type 1) → Rights M
 rights M = record {
-  Right-partner = equation (λ κs a z w p i. (record { 0 = p i }, z .1));
+  Right-partner = equation (λ κs a z w p i. (p i, z .1));
   Right-single = equation (λ κs a z w p i. (record { 0 = p i }, z .1));
   RightSet-all = equation (λ κs a z w p i. (record { 0 = p i }, z .1));
   RightSet-has = equation (λ κs a z w p i. (p i, z .1));
@@ -17,22 +17,41 @@ rights M = record {
   RightSet-count = equation (λ κs a z w p i. (p i, z .1));
   TypeSet-has = equation (λ κs a z w p i. (p i, z .1));
   TypeSet-within = equation (λ κs a z w p i. (p i, z .1));
+  Right-below = equation (λ κs a z w p i. (p i, z .1));
+  Right-is-zero = equation (λ κs a z w p i. (p i, z .1));
+  Right-byte = equation (λ κs a z w p i. (p i, z .1));
+  ThingType-below = equation (λ κs a z w p i. (p i, z .1));
+  ThingType-is = equation (λ κs a z w p i. (p i, z .1));
+  ThingType-is-zero = equation (λ κs a z w p i. (p i, z .1));
+  ThingType-byte = equation (λ κs a z w p i. (p i, z .1));
+  Parameter-below = equation (λ κs a z w p i. (p i, z .1));
+  Parameter-is = equation (λ κs a z w p i. (p i, z .1));
+  Parameter-is-zero = equation (λ κs a z w p i. (p i, z .1));
+  Parameter-byte = equation (λ κs a z w p i. (p i, z .1));
 }
 
 pub accepted : (M : Type 1) → Accepted M
 accepted M = record {
-  destroyed = equation (λ κs a z w p i. (p i, z .1));
   group-of = equation (λ κs a z w p i. (p i, z .1));
   is-create = equation (λ κs a z w p i. (p i, z .1));
   last-group = equation (λ κs a z w p i. (p i, z .1));
-  may-create = equation (λ κs a z w p i. (p i, z .1));
   type-at = equation (λ κs a z w p i. (p i, z .1));
-  matrix-accepted = equation (λ κs a z w p i. (p i, z .1));
-  things-accepted = equation (λ κs a z w p i. (p i, z .1));
   command-accepted = equation (λ κs a z w p i. (p i, z .1));
   command-fault = equation (λ κs a z w p i. (p i, z .1));
   head-fault = equation (λ κs a z w p i. (p i, z .1));
   scheme-accepted = equation (λ κs a z w p i. (p i, z .1));
+  Checked-number = equation (λ κs a z w p i. (p i, z .1));
+  creatable = equation (λ κs a z w p i. (p i, z .1));
+  destroyable = equation (λ κs a z w p i. (p i, z .1));
+}
+
+pub things : (M : Type 1) → Things M
+things M = record {
+  no-things = equation (λ κs a z w p i. (p i, z .1));
+  seat-in = equation (λ κs a z w p i. (p i, z .1));
+  seat-of = equation (λ κs a z w p i. (p i, z .1));
+  put-thing = equation (λ κs a z w p i. (p i, z .1));
+  copy-cells = equation (λ κs a z w p i. (tt, (p i, z .1 .1)));
 }
 
 pub records : (M : Type 1) → Records M
@@ -50,6 +69,29 @@ records M = record {
   put8 = equation (λ κs a z w p i. (tt, (p i, z .1 .1)));
   put-front = equation (λ κs a z w p i. (tt, (p i, z .1 .1)));
   write-record = equation (λ κs a z w p i. (p i .0, (p i .1, z .1 .1)));
+  Field-number = equation (λ κs a z w p i. (p i, z .1));
+  Field2-number = equation (λ κs a z w p i. (p i, z .1));
+  Field8-number = equation (λ κs a z w p i. (p i, z .1));
+  RecordAnswer-number = equation (λ κs a z w p i. (p i, z .1));
+  RecordAnswer-at = equation (λ κs a z w p i. (p i, z .1));
+  Reading-number = equation (λ κs a z w p i. (p i, z .1));
+  Reading-at = equation (λ κs a z w p i. (p i, z .1));
+  Writing-number = equation (λ κs a z w p i. (p i, z .1));
+}
+
+pub accepted-matrix : (M : Type 1) → AcceptedMatrix M
+accepted-matrix M = record {
+  things-accepted = equation (λ κs a z w p i. (p i, z .1));
+  matrix-accepted = equation (λ κs a z w p i. (p i, z .1));
+}
+
+pub command-bytes : (M : Type 1) → CommandBytes M
+command-bytes M = record {
+  HeadAt-number = equation (λ κs a z w p i. (p i, z .1));
+  HeadAt-at = equation (λ κs a z w p i. (p i, z .1));
+  read-command = equation (λ κs a z w p i. (p i, z .1));
+  read-head = equation (λ κs a z w p i. (p i, z .1));
+  no-command = equation (λ κs a z w p i. (p i, z .1));
 }
 
 pub scheme-bytes : (M : Type 1) → SchemeBytes M
@@ -61,6 +103,20 @@ scheme-bytes M = record {
 pub scheme-write : (M : Type 1) → SchemeWrite M
 scheme-write M = record {
   write-scheme = equation (λ κs a z w p i. (p i .0, (p i .1, z .1 .1)));
+}
+
+pub matrix-records : (M : Type 1) → MatrixRecords M
+matrix-records M = record {
+  HeadAt-number = equation (λ κs a z w p i. (p i, z .1));
+  HeadAt-at = equation (λ κs a z w p i. (p i, z .1));
+  ThingAt-number = equation (λ κs a z w p i. (p i, z .1));
+  ThingAt-at = equation (λ κs a z w p i. (p i, z .1));
+  CellAt-number = equation (λ κs a z w p i. (p i, z .1));
+  CellAt-at = equation (λ κs a z w p i. (p i, z .1));
+  any-record-at = equation (λ κs a z w p i. (p i, z .1));
+  read-head = equation (λ κs a z w p i. (p i, z .1));
+  read-thing = equation (λ κs a z w p i. (p i, z .1));
+  read-cell = equation (λ κs a z w p i. (p i, z .1));
 }
 
 pub matrix-bytes : (M : Type 1) → MatrixBytes M
@@ -82,11 +138,24 @@ request-bytes M = record {
   write-request = equation (λ κs a z w p i. (p i .0, (p i .1, z .1 .1)));
 }
 
+pub request-list : (M : Type 1) → RequestList M
+request-list M = record {
+  count-requests = equation (λ κs a z w p i. (p i, z .1));
+}
+
+pub plan : (M : Type 1) → Plan M
+plan M = record {
+  locate = equation (λ κs a z w p i. (p i, z .1));
+  plan-all = equation (λ κs a z w p i. (p i, z .1));
+  seat-at = equation (λ κs a z w p i. (p i, z .1));
+}
+
 pub engine : (M : Type 1) → Engine M
 engine M = record {
-  run-list = equation (λ κs a z w p i. (p i .ran, (tt, (tt, (p i .cells, (tt, (p i .numbers, z .1 .1 .1 .1 .1 .1)))))));
+  run-list = equation (λ κs a z w p i. (p i .ran, (tt, (tt, (p i .cells, (tt, (p i .replies, z .1 .1 .1 .1 .1 .1)))))));
   run-quietly = equation (λ κs a z w p i. (p i .0, (tt, (tt, (p i .1, z .1 .1 .1 .1)))));
   request = equation (λ κs a z w p i. (p i .0, (tt, (tt, (p i .1, z .1 .1 .1 .1)))));
+  RunAnswer-number = equation (λ κs a z w p i. (p i, z .1));
 }
 
 pub totals : (M : Type 1) → Totals M
@@ -102,8 +171,17 @@ convert M = record {
   converted-scheme = equation (λ κs a z w p i. (p i, z .1));
 }
 
+pub lines : (M : Type 1) → Lines M
+lines M = record {
+  put-text = equation (λ κs a z w p i. (p i .0, (p i .1, z .1 .1)));
+  put-decimal = equation (λ κs a z w p i. (p i .0, (p i .1, z .1 .1)));
+  put-number = equation (λ κs a z w p i. (p i .0, (p i .1, z .1 .1)));
+  put-line = equation (λ κs a z w p i. (p i .0, (p i .1, z .1 .1)));
+}
+
 pub printout : (M : Type 1) → Printout M
 printout M = record {
+  answers-text = equation (λ κs a z w p i. (p i .0, (tt, (tt, (p i .1, z .1 .1 .1 .1)))));
   printout = equation (λ κs a z w p i. (p i .0, (tt, (tt, (tt, (p i .1, z .1 .1 .1 .1 .1))))));
 }
 

@@ -18,9 +18,9 @@ use Rattle.model.specs.Papers.{countIds}
 use Rattle.model.specs.Seats.{among, known}
 use Rattle.model.specs.Accepted.{apart}
 use Rattle.model.specs.declared.Things.{Things}
-use Rattle.model.proofs.Bools.{is-false, and-right, eqb-not, one-mono}
+use Rattle.laws.proofs.Bools.{is-false, and-right, eqb-not, one-mono}
 use Rattle.model.proofs.HeldLaws.{first-apart}
-use Rattle.accepted.proofs.Walks.{turn, ended}
+use Rattle.laws.proofs.Walks.{turn, ended}
 use Rattle.totals.specs.Totals.{sumIds, filled, sumOf}
 
 -- ---- what is counted of one cell

@@ -9,15 +9,15 @@ use lib.ListN.{length, take, drop, getD, length-drop}
 use lib.Seq.{length-take-le, getD-take, getD-drop}
 use borrow.Author.Tests.{eqb-false}
 use Rattle.rights.specs.Sets.{countRights}
-use Rattle.model.specs.Check.{isSome}
+use Rattle.laws.specs.Check.{isSome}
 use Rattle.model.specs.Papers.{howMany}
-use Rattle.model.specs.Seats.{Matrix, among, known, thingAt, place, cell, standsFor}
+use Rattle.model.specs.Seats.{Matrix, among, known, thingAt, place, cell, standsFor, paperThings}
 use Rattle.model.specs.Accepted.{standing, acceptedScheme, acceptedMatrix}
 use Rattle.model.specs.declared.Head.{Head}
 use Rattle.model.specs.declared.Things.{Things}
-use Rattle.model.proofs.Bools.{is-true}
+use Rattle.laws.proofs.Bools.{is-true}
 use Rattle.model.proofs.Held.{Held}
-use Rattle.model.proofs.HeldLaws.{held, ids-apart}
+use Rattle.model.proofs.HeldLaws.{held, ids-apart, ids-small}
 use Rattle.model.proofs.Find.{is-known, among-get, seat-at}
 use Rattle.totals.specs.Totals.{sumIds, overCells, filled, paperTotals, sumOf, memoryTotals, totalsOf}
 use Rattle.totals.specs.Promises.{TrueTotals}
@@ -91,13 +91,13 @@ module _ (s : Head) (m : Matrix) (ok : Held s m) where
           sum-ids k _ th small (ids-apart s th (ok .things)) (λ x e. sum-same k _ _ (λ y a b. ap f (no-row x y e) ∙ zero-none) ∙ sum-none k)
           ∙ sum-rows f _ 48 (th .ids) (m .cells) (rw (ok .cells .room, ok .things .idRoom)) (λ i h. row-places i (rw (ok .things .idRoom) at h))
 
-  things-law : howMany (standsFor m) ≡ sumOf filled (th .ids)
-  unfolding howMany standsFor
-  things-law = count-sum 65535 _ ∙ things-sum 65535 (ok .things .small)
+  things-law : howMany (standsFor m .things) ≡ sumOf filled (th .ids)
+  unfolding howMany standsFor paperThings
+  things-law = count-sum 65535 _ ∙ things-sum 65535 (ids-small s th (ok .things))
 
   cells-law : (f : ℕ → ℕ) → f 0 ≡ 0 → overCells f (standsFor m) ≡ sumOf f (m .cells)
   unfolding overCells
-  cells-law f e = cells-sum 65535 (ok .things .small) f e
+  cells-law f e = cells-sum 65535 (ids-small s th (ok .things)) f e
 
 pub true-totals : TrueTotals
 unfolding totalsOf paperTotals memoryTotals

@@ -9,6 +9,7 @@ use Rattle.model.specs.Papers.{State, howMany}
 use Rattle.model.specs.Seats.{Matrix}
 use Rattle.model.specs.Accepted.{acceptedScheme, acceptedMatrix}
 use Rattle.model.specs.declared.Scheme.{Scheme}
+use Rattle.records.specs.Told.{Told, told}
 use Rattle.totals.specs.declared.answers.Totals.{Totals}
 use Rattle.totals.specs.declared.answers.Totals.the-variants.{Counted, Refused}
 
@@ -26,7 +27,7 @@ unfoldable pub filled : ℕ → ℕ
 filled set = cond (eqb set 0) 0 1
 
 unfoldable pub paperTotals : State → Totals
-paperTotals m = Counted (howMany m) (overCells filled m) (overCells countRights m)
+paperTotals m = Counted (howMany (m .things)) (overCells filled m) (overCells countRights m)
 
 -- ---- in memory: over the seats, and over the list of cells
 
@@ -40,3 +41,8 @@ memoryTotals m = Counted (sumOf filled (m .things .ids)) (sumOf filled (m .cells
 -- 27 before all
 unfoldable pub totalsOf : Scheme → Matrix → Totals
 totalsOf s m = cond (acceptedScheme s && acceptedMatrix (s .head) m) (memoryTotals m) (Refused 27)
+
+-- what that tells: the three numbers; or the number of the refusal
+abbrev pub ofTotals : Totals → Told
+ofTotals (Counted things cells entries) = told 0 (things ∷ cells ∷ entries ∷ [])
+ofTotals (Refused k) = told k []

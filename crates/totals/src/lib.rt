@@ -1,14 +1,15 @@
 // The totals that `play` prints at the end: things, cells that aren't empty, entries.
 mod answers;
 
-use accepted::matrix_accepted;
 use accepted::scheme_accepted;
+use accepted_matrix::matrix_accepted;
 pub use answers::Totals;
 use model::Scheme;
 use model::Things;
 use rights::RightSet;
 ghost use mathlib.Core.Path.{_≡_};
 ghost use lib.ListN.{length};
+ghost use Rattle.model.specs.Seats.{matrixOf};
 ghost use Rattle.rights.specs.Sets.{countRights};
 ghost use Rattle.totals.specs.Totals.{filled, sumOf, totalsOf};
 
@@ -17,7 +18,7 @@ fn count_things(th: Things) -> u32
 {
     let mut n: u32 = 0;
     let mut i: usize = 0;
-    while i < 48 {
+    while i < Things::LIMIT {
         if th.ids[i] != 0 {
             n += 1;
         }
@@ -32,7 +33,7 @@ fn count_cells(cells: &[u64]) -> u32
 {
     let mut n: u32 = 0;
     let mut k: usize = 0;
-    while k < 2304 {
+    while k < Things::CELLS {
         if cells[k] != 0 {
             n += 1;
         }
@@ -47,7 +48,7 @@ fn count_entries(cells: &[u64]) -> u32
 {
     let mut n: u32 = 0;
     let mut k: usize = 0;
-    while k < 2304 {
+    while k < Things::CELLS {
         n += RightSet(cells[k]).count();
         k += 1;
     }
@@ -56,7 +57,7 @@ fn count_entries(cells: &[u64]) -> u32
 
 // The totals of a matrix of a scheme; 27 for one that no reading gives.
 pub fn totals(s: Scheme, th: Things, cells: &[u64]) -> Totals
-    ensures { λ r. ⌜ r ≡ totalsOf s (record { things = th; cells = now (cells .entry) }) ⌝ }
+    ensures { λ r. ⌜ r ≡ totalsOf s (matrixOf th (now (cells .entry))) ⌝ }
 {
     if !scheme_accepted(s) {
         return Totals::Refused(27);

@@ -1,13 +1,15 @@
-//! The program: makes cases for the library's driver, checks what the driver tells, and compares `play`.
+//! The program: makes cases for the library's driver, checks what the driver tells, and compares `play` and the tools.
 
 mod buffer;
 mod cases;
 mod check;
 mod counts;
 mod expected;
+mod folder;
 mod list;
 mod play;
 mod told;
+mod tools;
 
 use std::env;
 use std::io::{BufReader, BufWriter};
@@ -18,6 +20,7 @@ const EXPECTED: &str = "expected one of
   compare cases SEED COUNT [FIRST]        the driver's input, on standard output
   compare check SEED COUNT [FIRST]        checks the driver's output, from standard input
   compare play SEED COUNT PROGRAM...      runs PROGRAM in a folder with each case's files and checks what it prints
+  compare tools SEED COUNT PROGRAM...     runs PROGRAM with the words of each tool, and checks the files afterwards too
 where SEED, COUNT and FIRST are numbers from 0 to 18446744073709551615; FIRST is the first case's number, 0 if not given";
 
 /// Why a subcommand ended early.
@@ -67,6 +70,12 @@ fn call(arguments: &[String]) -> Result<Result<(), Stop>, String> {
             Ok(check::check(number("SEED", seed)?, numbers, input))
         }
         ("play", [seed, count, program, words @ ..]) => Ok(play::compare(
+            number("SEED", seed)?,
+            range(count, &[])?,
+            program,
+            words,
+        )),
+        ("tools", [seed, count, program, words @ ..]) => Ok(tools::compare(
             number("SEED", seed)?,
             range(count, &[])?,
             program,

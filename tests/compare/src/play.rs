@@ -1,14 +1,13 @@
 //! Runs `play` on each case's files and holds what it prints against the independent program.
 
-use std::fs;
-use std::io;
 use std::ops::Range;
-use std::path::{Path, PathBuf};
 use std::process::Command;
 
 use independent::generate::{case, Case};
 use independent::print::play;
+use independent::tools;
 
+use crate::folder::Folder;
 use crate::Stop;
 
 pub fn compare(
@@ -17,12 +16,12 @@ pub fn compare(
     program: &str,
     words: &[String],
 ) -> Result<(), Stop> {
-    let folder = Folder::new()?;
+    let folder = Folder::new("play")?;
     let mut lines = 0;
     let mut count = 0;
     for number in numbers {
         let case = case(seed, number);
-        folder.fill(&case)?;
+        folder.fill(&files(&case))?;
         let output = Command::new(program)
             .args(words)
             .current_dir(&folder.path)
@@ -51,8 +50,22 @@ pub fn compare(
     Ok(())
 }
 
+/// The case's three inputs by their names. An empty one is at times an empty file and at times none at all; the room is as good as a coin.
+pub fn files(case: &Case) -> tools::Folder {
+    let mut files = tools::Folder::new();
+    let mut put = |name: &str, bytes: &[u8], missing_if_empty: bool| {
+        if !bytes.is_empty() || !missing_if_empty {
+            files.insert(name.to_string(), bytes.to_vec());
+        }
+    };
+    put("scheme.bin", &case.scheme, true);
+    put("matrix.bin", &case.matrix, true);
+    put("requests.bin", &case.requests, case.room % 2 == 0);
+    files
+}
+
 /// The first line that differs.
-fn difference(got: &str, wanted: &str) -> String {
+pub fn difference(got: &str, wanted: &str) -> String {
     let (mut got, mut wanted) = (got.lines(), wanted.lines());
     for line in 1.. {
         match (got.next(), wanted.next()) {
@@ -64,7 +77,7 @@ fn difference(got: &str, wanted: &str) -> String {
                     None => "nothing".to_string(),
                 };
                 return format!(
-                    "line {line} is {} in play, {} in the independent program",
+                    "line {line} is {} in the program, {} in the independent one",
                     shown(got),
                     shown(wanted)
                 );
@@ -72,48 +85,4 @@ fn difference(got: &str, wanted: &str) -> String {
         }
     }
     "the lines are equal, and only their ends differ".to_string()
-}
-
-/// A temporary folder, removed at the end.
-struct Folder {
-    path: PathBuf,
-}
-
-impl Folder {
-    fn new() -> Result<Folder, Stop> {
-        let path = std::env::temp_dir().join(format!("compare-play-{}", std::process::id()));
-        fs::create_dir(&path).map_err(|error| failed(&path, error))?;
-        Ok(Folder { path })
-    }
-
-    fn fill(&self, case: &Case) -> Result<(), Stop> {
-        self.put("scheme.bin", &case.scheme, true)?;
-        self.put("matrix.bin", &case.matrix, true)?;
-        // An empty list is at times an empty file and at times none at all; the room is as good as a coin.
-        self.put("requests.bin", &case.requests, case.room % 2 == 0)
-    }
-
-    /// A missing file is empty input.
-    fn put(&self, name: &str, bytes: &[u8], missing_if_empty: bool) -> Result<(), Stop> {
-        let path = self.path.join(name);
-        if bytes.is_empty() && missing_if_empty {
-            match fs::remove_file(&path) {
-                Err(error) if error.kind() != io::ErrorKind::NotFound => Err(failed(&path, error)),
-                _ => Ok(()),
-            }
-        } else {
-            fs::write(&path, bytes).map_err(|error| failed(&path, error))
-        }
-    }
-}
-
-impl Drop for Folder {
-    fn drop(&mut self) {
-        // Nothing is lost if it stays: it is a temporary folder.
-        let _ = fs::remove_dir_all(&self.path);
-    }
-}
-
-fn failed(path: &Path, error: io::Error) -> Stop {
-    Stop::Failed(format!("{}: {error}", path.display()))
 }

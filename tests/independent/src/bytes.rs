@@ -11,25 +11,33 @@ pub const REQUEST: u16 = 6;
 
 /// A record whose front is checked and whose body is being read field by field.
 pub struct Record<'a> {
+    pub kind: u16,
     pub at: usize,
     pub next: usize,
     body: &'a [u8],
 }
 
 impl<'a> Record<'a> {
-    /// Front (1), kind (2), body's end (1).
+    /// One of the only kind that may stand there.
     pub fn read(input: &'a [u8], at: usize, kind: u16) -> Result<Record<'a>, Found> {
+        Record::read_of(input, at, |found| found == kind)
+    }
+
+    /// Front (1), kind (2), body's end (1).
+    pub fn read_of(
+        input: &'a [u8],
+        at: usize,
+        may_stand: impl Fn(u16) -> bool,
+    ) -> Result<Record<'a>, Found> {
         let left = input.get(at..).unwrap_or(&[]);
         must(!left.is_empty(), Fault::RecordMissing, at)?;
         must(left.len() >= 4, Fault::FrontCut, at)?;
         let length = u16::from_le_bytes([left[0], left[1]]) as usize;
-        must(
-            u16::from_le_bytes([left[2], left[3]]) == kind,
-            Fault::Kind,
-            at,
-        )?;
+        let kind = u16::from_le_bytes([left[2], left[3]]);
+        must(may_stand(kind), Fault::Kind, at)?;
         must(left.len() - 4 >= length, Fault::BodyPastEnd, at)?;
         Ok(Record {
+            kind,
             at,
             next: at + 4 + length,
             body: &left[4..4 + length],

@@ -2,13 +2,20 @@
 //! input and output are both made here, so that nothing in them is copied from what that program prints.
 
 mod asked;
+mod at_position;
 mod carrying_out;
+mod commands;
 mod conversions;
+mod encoded;
 mod examples;
 mod fields;
+mod forms;
 mod largest;
 mod lines;
 mod matrices;
+mod parts;
+mod planned;
+mod plans;
 mod requests;
 mod said;
 mod schemes;
@@ -17,6 +24,8 @@ mod sets;
 mod strangers;
 mod sums;
 mod tasks;
+mod texts;
+mod things;
 mod values;
 
 pub use lines::{told, Line};
@@ -43,6 +52,12 @@ pub fn cases() -> Vec<Case> {
         carrying_out::cases(),
         strangers::cases(),
         fields::cases(),
+        commands::cases(),
+        parts::cases(),
+        things::cases(),
+        forms::cases(),
+        plans::cases(),
+        texts::cases(),
         sets::cases(),
     ]
     .concat()

@@ -11,5 +11,6 @@ pub mod refusal;
 pub mod request;
 pub mod scheme;
 pub mod statistics;
+pub mod tools;
 
 pub use refusal::Refusal;

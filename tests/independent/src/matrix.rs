@@ -81,7 +81,33 @@ pub fn read_matrix(input: &[u8], scheme: &Scheme) -> Result<Matrix, Refusal> {
 
 /// The same with the fault by name.
 pub fn find_matrix(input: &[u8], scheme: &Scheme) -> Result<Matrix, Found> {
-    let mut head = Record::read(input, 0, MATRIX_HEAD)?;
+    let head = Record::read(input, 0, MATRIX_HEAD)?;
+    let mut at = head.next;
+    let things = read_head(head, scheme)?;
+
+    let mut matrix = Matrix::new();
+    let mut last_id = 0;
+    for _ in 0..things {
+        let thing = Record::read(input, at, THING)?;
+        at = thing.next;
+        let (id, kind) = read_thing(thing, scheme, last_id)?;
+        matrix.create(scheme, id, kind);
+        last_id = id;
+    }
+
+    let mut last_place = (0, 0);
+    while at != input.len() {
+        let cell = Record::read(input, at, CELL)?;
+        at = cell.next;
+        let (row, column, set) = read_cell(cell, scheme, |id| matrix.type_of(id), last_place)?;
+        matrix.set_cell(row, column, set);
+        last_place = (row, column);
+    }
+    Ok(matrix)
+}
+
+/// How many things a head states.
+pub fn read_head(mut head: Record, scheme: &Scheme) -> Result<u8, Found> {
     let rights = head.one()?;
     head.must(
         (1..=MOST_RIGHTS).contains(&rights),
@@ -91,50 +117,44 @@ pub fn find_matrix(input: &[u8], scheme: &Scheme) -> Result<Matrix, Found> {
     let things = head.one()?;
     head.must(things as usize <= MOST_THINGS, Fault::ThingsCount)?;
     head.end()?;
-
-    let mut matrix = Matrix::new();
-    let mut at = head.next;
-    let mut last_id = 0;
-    for _ in 0..things {
-        let mut thing = Record::read(input, at, THING)?;
-        let id = thing.two()?;
-        thing.must(id != 0, Fault::ThingIdZero)?;
-        thing.must(id > last_id, Fault::ThingOrder)?;
-        let kind = thing.one()?;
-        thing.must(kind < scheme.types, Fault::ThingType)?;
-        thing.end()?;
-        matrix.create(scheme, id, kind);
-        last_id = id;
-        at = thing.next;
-    }
-
-    let mut last_place = None;
-    while at != input.len() {
-        let mut cell = Record::read(input, at, CELL)?;
-        let row = cell.two()?;
-        cell.must(matrix.type_of(row).is_some(), Fault::CellRowUnknown)?;
-        let is_subject = matrix
-            .type_of(row)
-            .is_some_and(|kind| scheme.is_subject_type(kind));
-        cell.must(is_subject, Fault::CellRowNoSubject)?;
-        let column = cell.two()?;
-        cell.must(matrix.type_of(column).is_some(), Fault::CellColumnUnknown)?;
-        let is_above = last_place.is_none_or(|last| last < (row, column));
-        cell.must(is_above, Fault::CellOrder)?;
-        let set = cell.eight()?;
-        cell.must(set & !all_rights(scheme.rights) == 0, Fault::CellRight)?;
-        cell.must(set != 0, Fault::CellNoRights)?;
-        cell.end()?;
-        matrix.set_cell(row, column, set);
-        last_place = Some((row, column));
-        at = cell.next;
-    }
-    Ok(matrix)
+    Ok(things)
 }
 
-/// The set of the rights 0 to n - 1.
+/// A thing's id and type, behind a thing with this id, 0 for none.
+pub fn read_thing(mut thing: Record, scheme: &Scheme, last_id: u16) -> Result<(u16, u8), Found> {
+    let id = thing.two()?;
+    thing.must(id != 0, Fault::ThingIdZero)?;
+    thing.must(id > last_id, Fault::ThingOrder)?;
+    let kind = thing.one()?;
+    thing.must(kind < scheme.types, Fault::ThingType)?;
+    thing.end()?;
+    Ok((id, kind))
+}
+
+/// A cell's row, column and rights, among the things that have a type, behind a cell at this place, 0 and 0 for none.
+pub fn read_cell(
+    mut cell: Record,
+    scheme: &Scheme,
+    type_of: impl Fn(u16) -> Option<u8>,
+    last_place: (u16, u16),
+) -> Result<(u16, u16, u64), Found> {
+    let row = cell.two()?;
+    cell.must(type_of(row).is_some(), Fault::CellRowUnknown)?;
+    let is_subject = type_of(row).is_some_and(|kind| scheme.is_subject_type(kind));
+    cell.must(is_subject, Fault::CellRowNoSubject)?;
+    let column = cell.two()?;
+    cell.must(type_of(column).is_some(), Fault::CellColumnUnknown)?;
+    cell.must(last_place < (row, column), Fault::CellOrder)?;
+    let set = cell.eight()?;
+    cell.must(set & !all_rights(scheme.rights) == 0, Fault::CellRight)?;
+    cell.must(set != 0, Fault::CellNoRights)?;
+    cell.end()?;
+    Ok((row, column, set))
+}
+
+/// The set of the rights 0 to n - 1, of which a set can hold 64.
 pub fn all_rights(n: u8) -> u64 {
-    (0..n).fold(0, |set, right| set | 1 << right)
+    (0..n.min(MOST_RIGHTS)).fold(0, |set, right| set | 1 << right)
 }
 
 pub fn write_matrix(matrix: &Matrix, scheme: &Scheme) -> Vec<u8> {

@@ -22,24 +22,25 @@ pub fn play(scheme: &[u8], matrix: &[u8], requests: &[u8]) -> String {
         Err(refusal) => return bad(refusal),
     };
 
+    answers(&scheme, &mut matrix, requests).0 + &end(&matrix)
+}
+
+/// The heading and a line for each request, carried out in turn; a record that can't be read ends them with `bad`, which is told beside the text.
+pub fn answers(scheme: &Scheme, matrix: &mut Matrix, requests: &[u8]) -> (String, bool) {
     let mut text = String::from("request command result\n");
     let mut at = 0;
     for position in 0.. {
         match read_request(requests, at) {
             Next::Request { request, next } => {
-                let result =
-                    carry_out(&scheme, &mut matrix, request.command as usize, &request.ids);
+                let result = carry_out(scheme, matrix, request.command as usize, &request.ids);
                 text += &format!("{position} {} {result}\n", request.command);
                 at = next;
             }
             Next::End => break,
-            Next::Refused(refusal) => {
-                text += &bad(refusal);
-                break;
-            }
+            Next::Refused(refusal) => return (text + &bad(refusal), true),
         }
     }
-    text + &end(&matrix)
+    (text, false)
 }
 
 fn first_bytes(input: &[u8]) -> &[u8] {

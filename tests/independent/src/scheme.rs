@@ -97,7 +97,7 @@ impl Operation {
 }
 
 /// Creates come first, then enters and deletes, then destroys.
-fn group(code: u8) -> u8 {
+pub fn group(code: u8) -> u8 {
     match code {
         3 => 0,
         1 | 2 => 1,
@@ -112,7 +112,19 @@ pub fn read_scheme(input: &[u8]) -> Result<(Scheme, usize), Refusal> {
 
 /// The same with the fault by name.
 pub fn find_scheme(input: &[u8]) -> Result<(Scheme, usize), Found> {
-    let mut head = Record::read(input, 0, SCHEME_HEAD)?;
+    let (mut scheme, commands, mut at) = find_head(input, 0)?;
+    for _ in 0..commands {
+        let (command, next) = find_command(input, at, &scheme)?;
+        scheme.commands.push(command);
+        at = next;
+    }
+    must(at == input.len(), Fault::SchemeLeftover, at)?;
+    Ok((scheme, at))
+}
+
+/// The head at a position as a scheme that has no commands yet, how many it states, and the next position.
+pub fn find_head(input: &[u8], at: usize) -> Result<(Scheme, u8, usize), Found> {
+    let mut head = Record::read(input, at, SCHEME_HEAD)?;
     let rights = head.one()?;
     head.must((1..=MOST_RIGHTS).contains(&rights), Fault::RightsCount)?;
     let types = head.one()?;
@@ -125,27 +137,20 @@ pub fn find_scheme(input: &[u8]) -> Result<(Scheme, usize), Found> {
         Fault::CommandsCount,
     )?;
     head.end()?;
-
-    let mut scheme = Scheme {
+    let scheme = Scheme {
         rights,
         types,
         subjects,
         commands: Vec::new(),
     };
-    let mut at = head.next;
-    for _ in 0..commands {
-        let record = Record::read(input, at, COMMAND)?;
-        at = record.next;
-        let command = read_command(record, &scheme)?;
-        scheme.commands.push(command);
-    }
-    must(at == input.len(), Fault::SchemeLeftover, at)?;
-    Ok((scheme, at))
+    Ok((scheme, commands, head.next))
 }
 
-/// One command's record alone, against the head of a scheme.
-pub fn find_command(input: &[u8], scheme: &Scheme) -> Result<Command, Found> {
-    read_command(Record::read(input, 0, COMMAND)?, scheme)
+/// The command at a position, against the head of a scheme, and the next position.
+pub fn find_command(input: &[u8], at: usize, scheme: &Scheme) -> Result<(Command, usize), Found> {
+    let record = Record::read(input, at, COMMAND)?;
+    let next = record.next;
+    Ok((read_command(record, scheme)?, next))
 }
 
 fn read_command(mut record: Record, scheme: &Scheme) -> Result<Command, Found> {

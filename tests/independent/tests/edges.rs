@@ -42,29 +42,68 @@ fn each_label_stands_once() {
         .all(|label| !label.contains(char::is_whitespace)));
 }
 
-/// Which numbers each public function can give, by the outline's table; a yes or no is 1 or 0, and what can't refuse gives 0.
+/// Which numbers each public function can give, by the outline's table; a yes or no is 1 or 0, and what can't refuse gives 0. A method that tells an
+/// answer's number gives all those of its answers, one that tells a position gives 0.
 const FUNCTIONS: &[(&str, &[u8])] = &[
+    ("accepted::Checked::number", &[0, 4, 5, 6]),
     ("accepted::command_accepted", &[0, 1]),
     ("accepted::command_fault", &[0, 4, 5, 6]),
+    ("accepted::creatable", &[0, 1]),
+    ("accepted::destroyable", &[0, 1]),
+    ("accepted::group_of", &[0]),
     ("accepted::head_fault", &[0, 4, 6]),
-    ("accepted::matrix_accepted", &[0, 1]),
+    ("accepted::is_create", &[0, 1]),
+    ("accepted::last_group", &[0]),
     ("accepted::scheme_accepted", &[0, 1]),
-    ("accepted::things_accepted", &[0, 1]),
+    ("accepted::type_at", &[0]),
+    ("accepted_matrix::matrix_accepted", &[0, 1]),
+    ("accepted_matrix::things_accepted", &[0, 1]),
+    ("command_bytes::HeadAt::at", &[0]),
+    ("command_bytes::HeadAt::number", &[0, 1, 2, 3, 4, 6]),
+    ("command_bytes::no_command", &[0]),
+    ("command_bytes::read_command", &[0, 1, 2, 3, 4, 5, 6]),
+    ("command_bytes::read_head", &[0, 1, 2, 3, 4, 6]),
     ("convert::convert_matrix", &[0, 9, 20, 21, 22, 27]),
     ("convert::convert_scheme", &[0, 9, 20, 21, 22, 27]),
     ("convert::converted_cells", &[0, 20, 21, 22, 27]),
     ("convert::converted_scheme", &[0, 20, 21, 22, 27]),
+    ("engine::RunAnswer::number", &[0, 1, 2, 3, 4, 9, 27]),
     ("engine::request", &[0, 10, 11, 12, 13, 14, 15, 16, 17, 27]),
     ("engine::run_list", &[0, 1, 2, 3, 4, 9, 27]),
     ("engine::run_quietly", &[0, 1, 2, 3, 4, 27]),
+    ("lines::put_decimal", &[0]),
+    ("lines::put_line", &[0]),
+    ("lines::put_number", &[0]),
+    ("lines::put_text", &[0]),
     ("matrix_bytes::read_matrix", &[0, 1, 2, 3, 4, 5, 6, 7, 27]),
     (
         "matrix_bytes::read_matrix_by_head",
         &[0, 1, 2, 3, 4, 5, 6, 7, 27],
     ),
+    ("matrix_records::CellAt::at", &[0]),
+    ("matrix_records::CellAt::number", &[0, 1, 2, 3, 5, 6, 7]),
+    ("matrix_records::HeadAt::at", &[0]),
+    ("matrix_records::HeadAt::number", &[0, 1, 2, 3, 4, 6]),
+    ("matrix_records::ThingAt::at", &[0]),
+    ("matrix_records::ThingAt::number", &[0, 1, 2, 3, 5, 6, 7]),
+    ("matrix_records::any_record_at", &[0, 1]),
+    ("matrix_records::read_cell", &[0, 1, 2, 3, 5, 6, 7]),
+    ("matrix_records::read_head", &[0, 1, 2, 3, 4, 6]),
+    ("matrix_records::read_thing", &[0, 1, 2, 3, 5, 6, 7]),
     ("matrix_write::write_matrix", &[0, 9, 27]),
     ("matrix_write::write_matrix_by_head", &[0, 9, 27]),
+    ("plan::locate", &[0, 12, 13]),
+    ("plan::plan_all", &[0, 15, 16, 17]),
+    ("plan::seat_at", &[0]),
+    ("records::Field2::number", &[0, 3]),
+    ("records::Field8::number", &[0, 3]),
+    ("records::Field::number", &[0, 3, 5]),
     ("records::Kinds::has", &[0, 1]),
+    ("records::Reading::at", &[0]),
+    ("records::Reading::number", &[0, 1, 2, 3, 4, 5, 6, 7, 8, 27]),
+    ("records::RecordAnswer::at", &[0]),
+    ("records::RecordAnswer::number", &[0, 1, 2]),
+    ("records::Writing::number", &[0, 4, 9, 20, 21, 22, 27]),
     ("records::body", &[0]),
     ("records::byte_at", &[0, 3]),
     ("records::field2_at", &[0, 3]),
@@ -80,6 +119,14 @@ const FUNCTIONS: &[(&str, &[u8])] = &[
     ("request_bytes::read_request", &[0, 1, 2, 3, 4]),
     ("request_bytes::skip_request", &[0, 1, 2, 3, 4]),
     ("request_bytes::write_request", &[0, 4, 9]),
+    ("request_list::count_requests", &[0]),
+    ("rights::Parameter::below", &[0, 1]),
+    ("rights::Parameter::byte", &[0]),
+    ("rights::Parameter::is", &[0, 1]),
+    ("rights::Parameter::is_zero", &[0, 1]),
+    ("rights::Right::below", &[0, 1]),
+    ("rights::Right::byte", &[0]),
+    ("rights::Right::is_zero", &[0, 1]),
     ("rights::Right::partner", &[0]),
     ("rights::Right::single", &[0]),
     ("rights::RightSet::all", &[0]),
@@ -90,11 +137,20 @@ const FUNCTIONS: &[(&str, &[u8])] = &[
     ("rights::RightSet::has", &[0, 1]),
     ("rights::RightSet::is_empty", &[0, 1]),
     ("rights::RightSet::within", &[0, 1]),
+    ("rights::ThingType::below", &[0, 1]),
+    ("rights::ThingType::byte", &[0]),
+    ("rights::ThingType::is", &[0, 1]),
+    ("rights::ThingType::is_zero", &[0, 1]),
     ("rights::TypeSet::has", &[0, 1]),
     ("rights::TypeSet::within", &[0, 1]),
     ("scheme_bytes::no_scheme", &[0]),
     ("scheme_bytes::read_scheme", &[0, 1, 2, 3, 4, 5, 6, 8]),
     ("scheme_write::write_scheme", &[0, 9, 27]),
+    ("things::copy_cells", &[0]),
+    ("things::no_things", &[0]),
+    ("things::put_thing", &[0]),
+    ("things::seat_in", &[0]),
+    ("things::seat_of", &[0]),
     ("totals::totals", &[0, 27]),
 ];
 
@@ -114,84 +170,67 @@ fn every_number_is_reached() {
     assert_eq!(reached, outline.collect());
 }
 
-/// These crates stand below `robot` and `printout`.
-const CRATES: &[&str] = &[
-    "accepted",
-    "convert",
-    "engine",
-    "matrix_bytes",
-    "matrix_write",
-    "records",
-    "request_bytes",
-    "rights",
-    "scheme_bytes",
-    "scheme_write",
-    "totals",
-];
-
-/// A module whose functions have no task yet.
-const LEFT_OUT: &str = "pub use form::";
-
-/// What a crate's lib.rt declares, functions of a struct by its name, and what it hands on.
-fn public_functions(name: &str) -> Vec<String> {
-    let file = crates().join(name).join("src/lib.rt");
-    let text = fs::read_to_string(&file).unwrap_or_else(|error| panic!("{file:?}: {error}"));
-    let mut structure = None;
-    let mut functions = Vec::new();
-    for line in text.lines().filter(|line| !line.starts_with(LEFT_OUT)) {
-        let first_word = |rest: &str| {
-            let end = rest.find(|letter: char| !letter.is_alphanumeric() && letter != '_');
-            rest[..end.unwrap_or(rest.len())].to_string()
-        };
-        let declared = line.trim_start().strip_prefix("pub fn ").map(first_word);
-        if let Some(rest) = line.strip_prefix("impl ") {
-            structure = Some(first_word(rest));
-        } else if line == "}" {
-            structure = None;
-        } else if let Some(function) = declared {
-            let path = structure.iter().cloned().chain([function]);
-            functions.push(format!("{name}::{}", path.collect::<Vec<_>>().join("::")));
-        } else if let Some((_, handed_on)) = line
-            .strip_prefix("pub use ")
-            .and_then(|path| path.split_once("::"))
-        {
-            // A name that begins with a small letter is a function's.
-            if handed_on.starts_with(|letter: char| letter.is_lowercase()) {
-                functions.push(format!("{name}::{}", first_word(handed_on)));
-            }
-        }
-    }
-    functions
+fn text(file: PathBuf) -> String {
+    fs::read_to_string(&file).unwrap_or_else(|error| panic!("{}: {error}", file.display()))
 }
 
-/// Every public function of the libraries stands in the table above, so that a line is made of it.
+/// What `robot` and `printout` stand on, by crates.txt, and what that stands on.
+fn below_robot_and_printout() -> BTreeSet<String> {
+    let listed = text(crates().join("../crates.txt"));
+    let stands_on: BTreeMap<&str, &str> = listed
+        .lines()
+        .filter_map(|line| line.split_once(':'))
+        .collect();
+    let mut below = BTreeSet::new();
+    let mut left = vec!["robot", "printout"];
+    while let Some(name) = left.pop() {
+        let named = stands_on[name].split_whitespace();
+        left.extend(named.filter(|&other| below.insert(other.to_string())));
+    }
+    below
+}
+
+/// The path of each public function of these crates. crates/tight has a line for each of all crates, and .ci/statements holds these lines to the source.
+fn public_functions() -> BTreeSet<String> {
+    let below = below_robot_and_printout();
+    let lines = text(crates().join("tight/specs/Functions.antt"));
+    let contract = |line: &str| {
+        let word = line
+            .split_whitespace()
+            .find_map(|word| word.strip_suffix(".ended"))?;
+        let word = word.replace(['«', '»'], "");
+        let mut parts: Vec<&str> = word.split('.').collect();
+        // A method's module stands before its type.
+        if parts.len() == 4 {
+            parts.remove(1);
+        }
+        below.contains(parts[0]).then(|| parts.join("::"))
+    };
+    lines.lines().filter_map(contract).collect()
+}
+
+/// Every public function below `robot` and `printout` stands in the table above, so that a line is made of it.
 #[test]
 fn every_public_function_is_asked() {
-    let functions = CRATES.iter().flat_map(|name| public_functions(name));
     let asked = FUNCTIONS.iter().map(|(function, _)| function.to_string());
-    assert_eq!(
-        functions.collect::<BTreeSet<_>>(),
-        asked.collect::<BTreeSet<_>>()
-    );
+    assert_eq!(public_functions(), asked.collect());
 }
 
-/// The program itself calls each of them: by its crate's name, or as a method.
+/// The program itself calls each of them: by its crate's name, or as a method in a file that names the crate.
 #[test]
 fn the_program_calls_every_function() {
-    let mut program = String::new();
-    for file in fs::read_dir(crates().join("edges/src")).unwrap() {
-        program += &fs::read_to_string(file.unwrap().path()).unwrap();
-    }
+    let files = fs::read_dir(crates().join("edges/src")).unwrap();
+    let files: Vec<String> = files.map(|file| text(file.unwrap().path())).collect();
     for (function, _) in FUNCTIONS {
         let parts: Vec<&str> = function.split("::").collect();
-        let called = match parts[..] {
-            [_, structure, method] => {
-                let method = format!(".{method}(");
-                let path = format!("{structure}{}(", &method.replace('.', "::").replace('(', ""));
-                program.contains(&method) || program.contains(&path)
+        let is_called = |file: &String| match parts[..] {
+            [crate_name, structure, method] => {
+                let by_path = format!("{structure}::{method}(");
+                let called = file.contains(&format!(".{method}(")) || file.contains(&by_path);
+                called && file.contains(&format!("{crate_name}::"))
             }
-            _ => program.contains(&format!("{function}(")),
+            _ => file.contains(&format!("{function}(")),
         };
-        assert!(called, "{function}");
+        assert!(files.iter().any(is_called), "{function}");
     }
 }

@@ -10,7 +10,7 @@ use Rattle.rights.specs.Sets.{countRights}
 use Rattle.model.specs.Seats.{Matrix}
 use Rattle.model.specs.Accepted.{acceptedScheme, acceptedMatrix}
 use Rattle.model.specs.declared.Scheme.{Scheme}
-use Rattle.model.proofs.Bools.{from-true}
+use Rattle.laws.proofs.Bools.{from-true}
 use Rattle.model.proofs.HeldLaws.{held}
 use Rattle.totals.specs.Totals.{filled, sumOf, memoryTotals, totalsOf}
 use Rattle.totals.specs.declared.answers.Totals.the-variants.{Counted}

@@ -1,42 +1,59 @@
-//! What the functions say that store nothing: checks and totals, records and their fields, sets.
+//! What the functions say that store nothing: checks and totals, what is looked up in a command and among the things, sets and numbers.
 
+use super::at_position;
+use super::planned::located;
 use super::said::Said;
 use super::seats::Seats;
 use super::sums;
-use super::tasks::Task;
-use super::values::SchemeValue;
+use super::tasks::{Ask, Task};
+use super::values::{names, CommandValue, SchemeValue};
 use crate::matrix::all_rights;
-use crate::request::{read_request, Next, MOST_IDS};
-use crate::scheme::is_subject_type;
+use crate::scheme::{group, is_subject_type};
 
 pub fn say(task: &Task, scheme: &SchemeValue, seats: &Seats, lent: usize) -> Said {
     match task {
         Task::Accepted => accepted(scheme, seats, lent),
         Task::CommandAccepted(command) => {
             let command = *command as usize;
+            let fault = scheme.command_fault(command);
             Said::default()
-                .gave("accepted::command_fault", scheme.command_fault(command))
-                .flag("accepted::command_accepted", scheme.command_accepted(command))
+                .gave("accepted::command_fault", fault)
+                .through("accepted::Checked::number", fault)
+                .flag(
+                    "accepted::command_accepted",
+                    scheme.command_accepted(command),
+                )
         }
         Task::Totals => totals(scheme, seats, lent),
-        Task::ReadRequest { list, at } => whole_request(list, *at),
-        Task::SkipRequest { list, at } => {
-            let next = read_request(list, *at as usize);
-            request(Said::default(), "request_bytes::skip_request", &next)
+        Task::Form {
+            command,
+            operations,
+            parameter,
+            code,
+        } => {
+            let command = &scheme.commands[usize::from(*command)];
+            form(command, *operations, *parameter, *code)
         }
-        Task::Record { bytes, at, kinds } => record(bytes, *at, *kinds),
-        Task::Body {
-            bytes,
-            start,
-            length,
-        } => body(bytes, *start, *length),
-        Task::Fields {
-            bytes,
-            at,
-            low,
-            limit,
-            number,
-        } => fields(bytes, *at, *low..*limit, *number),
+        Task::Seats { first, id } => Said::default()
+            .value("things::seat_in", seats.seat_in(*first, *id))
+            .value("things::seat_of", seats.seat_in(u64::MAX, *id)),
+        Task::Locate { ask, parameter } => {
+            let Ask { command, ids } = ask;
+            let found = located(seats, &scheme.commands[usize::from(*command)], ids);
+            spots(
+                "plan::locate",
+                found.map_err(|number| (number, 0)),
+                *parameter,
+            )
+        }
+        Task::At(at) => at_position::say(at, &scheme.head(), seats),
+        _ => say_of_numbers(task),
+    }
+}
+
+/// Sets, and single numbers.
+fn say_of_numbers(task: &Task) -> Said {
+    match task {
         Task::Rights { set, right, n } => rights(*set, *right, *n),
         Task::Types { set, kind } => Said::default()
             .flag("rights::TypeSet::has", is_subject_type(*set, *kind))
@@ -45,9 +62,9 @@ pub fn say(task: &Task, scheme: &SchemeValue, seats: &Seats, lent: usize) -> Sai
                 (*kind..16).all(|above| !is_subject_type(*set, above)),
             ),
         Task::Kinds { set, kind } => {
-            let has = *kind < 16 && set >> kind & 1 == 1;
-            Said::default().flag("records::Kinds::has", has)
+            Said::default().flag("records::Kinds::has", at_position::has_kind(*set, *kind))
         }
+        Task::Numbers(one, other) => numbers(*one, *other),
         _ => unreachable!("it stores something"),
     }
 }
@@ -56,9 +73,16 @@ fn accepted(scheme: &SchemeValue, seats: &Seats, lent: usize) -> Said {
     let head = scheme.head();
     Said::default()
         .gave("accepted::head_fault", scheme.head_fault())
+        .through("accepted::Checked::number", scheme.head_fault())
         .flag("accepted::scheme_accepted", scheme.scheme().is_some())
-        .flag("accepted::things_accepted", seats.things_accepted(&head))
-        .flag("accepted::matrix_accepted", seats.accepted(&head, lent))
+        .flag(
+            "accepted_matrix::things_accepted",
+            seats.things_accepted(&head),
+        )
+        .flag(
+            "accepted_matrix::matrix_accepted",
+            seats.accepted(&head, lent),
+        )
 }
 
 fn totals(scheme: &SchemeValue, seats: &Seats, lent: usize) -> Said {
@@ -75,83 +99,37 @@ fn totals(scheme: &SchemeValue, seats: &Seats, lent: usize) -> Said {
     }
 }
 
-fn request(said: Said, function: &'static str, next: &Next) -> Said {
-    match next {
-        Next::Request { next, .. } => said.reading(function, Ok(*next)),
-        Next::Refused(refusal) => said.reading(function, Err(*refusal)),
-        Next::End => said.value(function, "end"),
-    }
+fn form(command: &CommandValue, operations: u64, parameter: u8, code: u8) -> Said {
+    let before = command.first_operations(operations);
+    let last_group = before.last().map_or(0, |last| group(last[0]));
+    Said::default()
+        .value("accepted::type_at", command.type_of(parameter))
+        .value("accepted::last_group", last_group)
+        .flag(
+            "accepted::creatable",
+            !names(before, 3, parameter) && !command.tests_name(parameter),
+        )
+        .flag("accepted::destroyable", !names(before, 4, parameter))
+        .value("accepted::group_of", group(code))
+        .flag("accepted::is_create", code == 3)
 }
 
-/// The answer; then command, how many ids, and the ids' sum with zeros behind them, all zeros where there is no request.
-fn whole_request(list: &[u8], at: u64) -> Said {
-    let next = read_request(list, at as usize);
-    let (command, mut ids) = match &next {
-        Next::Request { request, .. } => (request.command, request.ids.clone()),
-        _ => (0, Vec::new()),
-    };
-    let count = ids.len();
-    ids.resize(MOST_IDS, 0);
-    request(Said::default(), "request_bytes::read_request", &next)
-        .word(command)
-        .word(count)
-        .word(sums::ids(&ids))
-}
-
-/// Front (1), kind (2), body's end (1): the kind, where the body starts and its length; then the position behind the record.
-fn record(bytes: &[u8], at: u64, kinds: u16) -> Said {
-    let (one, next) = ("records::record_at", "records::next_record");
-    let said = Said::default();
-    let refused = |number: u8| {
-        let said = said.clone().gave(one, number).word(at);
-        said.gave(next, number).word(at)
-    };
-    let left = bytes.get(at as usize..).unwrap_or(&[]);
-    let Some((&[a, b, c, d], rest)) = left.split_first_chunk() else {
-        return refused(1);
-    };
-    let (length, kind) = (u16::from_le_bytes([a, b]), u16::from_le_bytes([c, d]));
-    if kind >= 16 || kinds >> kind & 1 == 0 {
-        return refused(2);
-    }
-    if rest.len() < usize::from(length) {
-        return refused(1);
-    }
-    let start = at + 4;
-    let said = said.gave(one, 0).word(kind).word(start).word(length);
-    said.gave(next, 0).word(start + u64::from(length))
-}
-
-/// What there is of the part: its length and its sum.
-fn body(bytes: &[u8], start: u64, length: u64) -> Said {
-    let from = (start as usize).min(bytes.len());
-    let to = (start.saturating_add(length) as usize).min(bytes.len());
-    let part = &bytes[from..to];
-    let said = Said::default().value("records::body", part.len());
-    said.word(sums::bytes(part))
-}
-
-/// Each field's number and value, 0 where there is a fault; 3 where the body ends before or inside it.
-fn fields(bytes: &[u8], at: u64, range: std::ops::Range<u8>, number: u8) -> Said {
-    let left = bytes.get(at as usize..).unwrap_or(&[]);
-    let field = |said: Said, function, value: Result<u64, u8>| match value {
-        Ok(value) => said.gave(function, 0).word(value),
-        Err(number) => said.gave(function, number).word(0),
-    };
-    let one = left.first().copied().ok_or(3);
-    let within = one.and_then(|value| range.contains(&value).then_some(value).ok_or(number));
-    let two = left.first_chunk().map(|field| u16::from_le_bytes(*field));
-    let eight = left.first_chunk().map(|field| u64::from_le_bytes(*field));
-    let said = field(Said::default(), "records::byte_at", one.map(u64::from));
-    let said = field(said, "records::field_at", within.map(u64::from));
-    let said = field(said, "records::field2_at", two.map(u64::from).ok_or(3));
-    field(said, "records::field8_at", eight.ok_or(3))
+/// The number and the operation's place; then all spots, zeros where there is a fault, and that of a parameter, 0 for one that no command has.
+pub fn spots(function: &'static str, found: Result<[u8; 8], (u8, u8)>, parameter: u8) -> Said {
+    let (number, place) = found.err().unwrap_or((0, 0));
+    let spots = found.unwrap_or([0; 8]);
+    let spot = spots.get(usize::from(parameter)).copied().unwrap_or(0);
+    Said::default()
+        .gave(function, number)
+        .word(place)
+        .word(sums::bytes(&spots))
+        .value("plan::seat_at", spot)
 }
 
 /// A right of number 64 or above is in no set, and there are no more than 64 of n rights.
 fn rights(set: u64, right: u8, n: u8) -> Said {
     let single = 1u64.checked_shl(right.into()).unwrap_or(0);
-    let all = all_rights(n.min(64));
+    let all = all_rights(n);
     Said::default()
         .value("rights::Right::partner", right.saturating_add(n))
         .value("rights::Right::single", single)
@@ -163,4 +141,20 @@ fn rights(set: u64, right: u8, n: u8) -> Said {
         .value("rights::RightSet::complement", all & !set)
         .flag("rights::RightSet::within", set & !all == 0)
         .value("rights::RightSet::count", set.count_ones())
+}
+
+/// As a right, as a type, as a parameter.
+fn numbers(one: u8, other: u8) -> Said {
+    Said::default()
+        .flag("rights::Right::below", one < other)
+        .flag("rights::Right::is_zero", one == 0)
+        .value("rights::Right::byte", one)
+        .flag("rights::ThingType::below", one < other)
+        .flag("rights::ThingType::is", one == other)
+        .flag("rights::ThingType::is_zero", one == 0)
+        .value("rights::ThingType::byte", one)
+        .flag("rights::Parameter::below", one < other)
+        .flag("rights::Parameter::is", one == other)
+        .flag("rights::Parameter::is_zero", one == 0)
+        .value("rights::Parameter::byte", one)
 }

@@ -83,7 +83,7 @@ fn destroyer() -> Scheme {
 }
 
 /// Types 0, a subject, and 1; command 0 creates one thing, 1 two, 2 destroys two, 3 creates one, enters, and destroys another.
-fn makers() -> Scheme {
+pub fn makers() -> Scheme {
     let create = |parameter| Operation::Create { parameter };
     let destroy = |parameter| Operation::Destroy { parameter };
     let enter = |row, column| Operation::Enter {
@@ -110,7 +110,7 @@ fn makers() -> Scheme {
 }
 
 /// Things 1 to a count; each third is a subject.
-fn things(count: u16) -> Vec<u8> {
+pub fn things(count: u16) -> Vec<u8> {
     let scheme = makers();
     let mut matrix = Matrix::new();
     for id in 1..=count {

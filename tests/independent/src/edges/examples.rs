@@ -1,5 +1,7 @@
 //! The bytes that most cases start from, and how single bytes of them are changed.
 
+use std::collections::BTreeSet;
+
 use super::{case, Case, Task};
 
 /// The outline's key example: 47 bytes.
@@ -51,6 +53,26 @@ pub fn changed(bytes: &[u8], changes: &[(usize, u8)], length: usize) -> Vec<u8> 
     }
     bytes.resize(length, 0);
     bytes
+}
+
+/// Each row's label and bytes.
+pub fn changed_rows(bytes: &[u8], rows: &[Row]) -> Vec<(&'static str, Vec<u8>)> {
+    let change = |&(label, changes, length): &Row| (label, changed(bytes, changes, length));
+    rows.iter().map(change).collect()
+}
+
+/// Where a record is the same in several rows, it is asked for only the first time.
+#[derive(Default)]
+pub struct Asked(BTreeSet<(usize, Vec<u8>)>);
+
+impl Asked {
+    /// Of the record at a position, what there is of it.
+    pub fn is_first(&mut self, bytes: &[u8], at: usize) -> bool {
+        let left = bytes.get(at..).unwrap_or(&[]);
+        let length = left.first_chunk().map_or(0, |two| u16::from_le_bytes(*two));
+        let end = left.len().min(4 + usize::from(length));
+        self.0.insert((at, left[..end].to_vec()))
+    }
 }
 
 /// The key example's scheme read, for the cases behind it.

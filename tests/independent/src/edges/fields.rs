@@ -1,6 +1,6 @@
 //! Records, bodies, fields and single stores, each at the end of what it reads or stores in.
 
-use super::tasks::{Store, Stored};
+use super::tasks::{At, Read, Store, Stored};
 use super::{case, Case, Task};
 
 pub fn cases() -> Vec<Case> {
@@ -13,7 +13,8 @@ const RECORDS: [u8; 15] = [3, 0, 4, 0, 7, 8, 9, 0, 0, 15, 0, 0, 0, 16, 0];
 fn records() -> Vec<Case> {
     let find = |label: &str, length: usize, at: u64, kinds: u16| {
         let bytes = RECORDS[..length].to_vec();
-        case(label, Task::Record { bytes, at, kinds })
+        let what = Read::Record { kinds };
+        case(label, Task::At(At { bytes, at, what }))
     };
     vec![
         find("record-of-4", 15, 0, 1 << 4),
@@ -33,14 +34,9 @@ fn records() -> Vec<Case> {
 }
 
 fn bodies() -> Vec<Case> {
-    let part = |label: &str, start: u64, length: u64| {
-        let bytes = RECORDS.to_vec();
-        let task = Task::Body {
-            bytes,
-            start,
-            length,
-        };
-        case(label, task)
+    let part = |label: &str, at: u64, length: u64| {
+        let (bytes, what) = (RECORDS.to_vec(), Read::Body { length });
+        case(label, Task::At(At { bytes, at, what }))
     };
     vec![
         part("body-of-3", 4, 3),
@@ -60,14 +56,12 @@ fn bodies() -> Vec<Case> {
 fn fields() -> Vec<Case> {
     let read = |at: u64| {
         let bytes = (10..20).collect();
-        let task = Task::Fields {
-            bytes,
-            at,
+        let what = Read::Fields {
             low: 12,
             limit: 18,
             number: 5,
         };
-        case(format!("fields-at-{at}"), task)
+        case(format!("fields-at-{at}"), Task::At(At { bytes, at, what }))
     };
     let places = [0, 1, 2, 3, 7, 8, 9, 10, 11, u64::MAX];
     places.into_iter().map(read).collect()

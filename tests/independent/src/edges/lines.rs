@@ -2,18 +2,19 @@
 //! made so far.
 
 use super::asked;
+use super::planned::planned;
 use super::said::{Given, Said};
 use super::seats::{Seats, CELLS};
 use super::sums;
 use super::tasks::{Ask, Task};
-use super::values::SchemeValue;
+use super::values::{CommandValue, SchemeValue};
 use super::Case;
 use crate::convert::{convert_matrix, convert_scheme};
 use crate::engine::carry_out;
 use crate::matrix::{read_matrix, write_matrix, Matrix};
 use crate::refusal::Refusal;
 use crate::request::{read_request, Next};
-use crate::scheme::{read_scheme, write_scheme, Scheme};
+use crate::scheme::{find_command, read_scheme, write_scheme, Scheme};
 
 /// A case's line, and what its functions gave.
 #[derive(Clone, Debug)]
@@ -52,9 +53,7 @@ impl State {
             }
             Task::NoScheme => {
                 self.scheme = SchemeValue::none();
-                let given = vec![("scheme_bytes::no_scheme", 0)];
-                let words = String::new();
-                Said { given, words }
+                Said::default().through("scheme_bytes::no_scheme", 0)
             }
             Task::SetHead(n, m, subjects, count) => {
                 let head = (*n, *m, *subjects, *count);
@@ -70,11 +69,19 @@ impl State {
                 let number = self.convert_scheme().err().unwrap_or(0);
                 Said::default().gave("convert::converted_scheme", number)
             }
+            Task::ReadCommand { place, bytes, at } => {
+                let answer = self.read_command((*place).into(), bytes, *at as usize);
+                Said::default().reading("command_bytes::read_command", answer)
+            }
+            Task::NoCommand(place) => {
+                self.scheme.commands[usize::from(*place)] = CommandValue::none();
+                Said::default().through("command_bytes::no_command", 0)
+            }
             _ => self.say_of_matrix(task, lent),
         }
     }
 
-    /// The tasks that are lent the cells to be changed.
+    /// The tasks that change the matrix.
     fn say_of_matrix(&mut self, task: &Task, lent: usize) -> Said {
         let said = Said::default();
         match task {
@@ -86,10 +93,6 @@ impl State {
                 let answer = self.read_matrix(bytes, self.head(), lent);
                 said.reading("matrix_bytes::read_matrix_by_head", answer)
             }
-            Task::SetThing { seat, id, kind } => {
-                self.seats.set_thing((*seat).into(), *id, *kind);
-                said
-            }
             Task::SetCell { place, rights } => {
                 self.seats.set_cell((*place).into(), *rights);
                 said
@@ -98,6 +101,31 @@ impl State {
                 let number = self.convert_cells(lent).err().unwrap_or(0);
                 said.gave("convert::converted_cells", number)
             }
+            Task::CopyCells(sets) => {
+                self.seats.copy_cells(sets, lent);
+                said.through("things::copy_cells", 0)
+            }
+            Task::NoThings => {
+                self.seats.no_things();
+                said.through("things::no_things", 0)
+            }
+            Task::PutThing { seat, id, kind } => {
+                self.seats.put_thing(*seat, *id, *kind);
+                said.through("things::put_thing", 0)
+            }
+            Task::Plan {
+                ask,
+                spots,
+                parameter,
+            } => asked::spots("plan::plan_all", self.plan(ask, *spots), *parameter),
+            _ => self.say_of_requests(task, lent),
+        }
+    }
+
+    /// Requests, and lists of them.
+    fn say_of_requests(&mut self, task: &Task, lent: usize) -> Said {
+        let said = Said::default();
+        match task {
             Task::Request(ask) => {
                 let number = self.request(ask, lent).unwrap_or_else(|number| number);
                 said.gave("engine::request", number)
@@ -108,18 +136,26 @@ impl State {
                     let ran = self.run(list);
                     ended(said, "engine::run_quietly", ran)
                 }
-                Err(number) => said.gave("engine::run_quietly", number),
+                Err(number) => run_answer(said, "engine::run_quietly", number),
             },
+            Task::CountRequests(list) => {
+                let count = requests(list).0.len();
+                said.value("request_list::count_requests", count)
+            }
             _ => self.say_of_output(task, lent),
         }
     }
 
     /// The tasks that write into a lent buffer.
     fn say_of_output(&self, task: &Task, lent: usize) -> Said {
-        let write = |function, bytes, room: &u64| Said::default().writing(function, bytes, 0, *room);
+        let write =
+            |function, bytes, room: &u64| Said::default().writing(function, bytes, 0, *room);
         let written = |of: Result<Scheme, u8>| {
             let scheme = of?;
-            Ok(write_matrix(&self.matrix(Ok(scheme.clone()), lent)?, &scheme))
+            Ok(write_matrix(
+                &self.matrix(Ok(scheme.clone()), lent)?,
+                &scheme,
+            ))
         };
         match task {
             Task::WriteScheme(room) => {
@@ -174,6 +210,14 @@ impl State {
         Ok(next)
     }
 
+    /// Where it is refused, the command of zeros is put there.
+    fn read_command(&mut self, place: usize, bytes: &[u8], at: usize) -> Result<usize, Refusal> {
+        let read = find_command(bytes, at, &self.scheme.head());
+        let command = read.as_ref().map(|(command, _)| CommandValue::of(command));
+        self.scheme.commands[place] = command.unwrap_or(CommandValue::none());
+        Ok(read?.1)
+    }
+
     fn read_matrix(
         &mut self,
         bytes: &[u8],
@@ -210,6 +254,13 @@ impl State {
         Ok(write_matrix(&converted, &convert_scheme(&scheme)?))
     }
 
+    fn plan(&mut self, ask: &Ask, spots: [u8; 8]) -> Result<[u8; 8], (u8, u8)> {
+        let command = &self.scheme.commands[usize::from(ask.command)];
+        let (seats, spots) = planned(&self.seats, command, &ask.ids, spots)?;
+        self.seats = seats;
+        Ok(spots)
+    }
+
     fn request(&mut self, ask: &Ask, lent: usize) -> Result<u8, u8> {
         let scheme = self.scheme()?;
         let mut matrix = self.matrix(Ok(scheme.clone()), lent)?;
@@ -230,7 +281,7 @@ impl State {
         let short = (out.len() < count).then_some(9);
         let refused = self.matrix(self.scheme(), lent).err().or(short);
         let said = match refused {
-            Some(number) => said.gave(function, number),
+            Some(number) => run_answer(said, function, number),
             None => {
                 let ran = self.run(list);
                 out[..count].copy_from_slice(&ran.0);
@@ -250,10 +301,15 @@ impl State {
 
 fn ended(said: Said, function: &'static str, ran: (Vec<u8>, Option<Refusal>)) -> Said {
     let (answers, end) = ran;
-    match end {
-        None => said.gave(function, 0).word(answers.len()),
-        Some(Refusal { number, at }) => said.gave(function, number).word(answers.len()).word(at),
-    }
+    let number = end.map_or(0, |refusal| refusal.number);
+    let said = run_answer(said, function, number).word(answers.len());
+    end.into_iter()
+        .fold(said, |said, refusal| said.word(refusal.at))
+}
+
+fn run_answer(said: Said, function: &'static str, number: u8) -> Said {
+    let said = said.through(function, number);
+    said.gave("engine::RunAnswer::number", number)
 }
 
 /// The requests that can be read, and the refusal of the record behind them, if there is one.

@@ -1,6 +1,6 @@
 //! Matrices of the key example's scheme read, with single bytes changed; then its matrix written.
 
-use super::examples::{changed, key_matrix, key_scheme, Row, KEY_MATRIX, KEY_SCHEME};
+use super::examples::{changed_rows, key_matrix, key_scheme, Row, KEY_MATRIX, KEY_SCHEME};
 use super::seats::MOST_CELLS;
 use super::{case, Case, Task};
 use crate::matrix::read_matrix;
@@ -65,24 +65,27 @@ const CELLS: &[Row] = &[
 /// The refused ones first, all on one table that is spoiled.
 pub fn cases() -> Vec<Case> {
     let (scheme, _) = read_scheme(&KEY_SCHEME).expect("the key example");
-    let rows = [FRONTS, THINGS, CELLS].concat();
-    let bytes = |&(_, changes, length): &Row| changed(&KEY_MATRIX, changes, length);
-    let (accepted, refused): (Vec<Row>, Vec<Row>) = rows
+    let (accepted, refused): (Vec<_>, Vec<_>) = of_key()
         .into_iter()
-        .partition(|row| read_matrix(&bytes(row), &scheme).is_ok());
+        .partition(|(_, bytes)| read_matrix(bytes, &scheme).is_ok());
     let mut cases = vec![key_scheme("scheme-of-matrices")];
     cases.extend(spoiled("table"));
-    for row in &refused {
-        cases.extend(readings(row.0, bytes(row)));
+    for (label, bytes) in refused {
+        cases.extend(readings(label, bytes));
     }
-    for row in &accepted {
-        for reading in readings(row.0, bytes(row)) {
+    for (label, bytes) in accepted {
+        for reading in readings(label, bytes) {
             cases.extend(spoiled(&reading.label));
             cases.push(reading);
         }
     }
     cases.extend(writings());
     cases
+}
+
+/// The key example with its changes, each with its label.
+pub fn of_key() -> Vec<(&'static str, Vec<u8>)> {
+    changed_rows(&KEY_MATRIX, &[FRONTS, THINGS, CELLS].concat())
 }
 
 fn readings(label: &str, bytes: Vec<u8>) -> [Case; 2] {
@@ -96,7 +99,7 @@ fn readings(label: &str, bytes: Vec<u8>) -> [Case; 2] {
 /// A table that no reading gives: a reading that is refused must leave it so, and one that isn't must leave nothing of it.
 fn spoiled(label: &str) -> Vec<Case> {
     let thing = |seat, id, kind| {
-        let task = Task::SetThing { seat, id, kind };
+        let task = Task::PutThing { seat, id, kind };
         case(format!("{label}-seat-{seat}"), task)
     };
     let cell = |place, rights| {

@@ -1,7 +1,7 @@
 //! Request records read at a position of a list, and written at a position of a buffer.
 
 use super::examples::{changed, REQUESTS};
-use super::tasks::{Ask, Store, Stored};
+use super::tasks::{Ask, At, Read, Store, Stored};
 use super::{case, Case, Task};
 
 /// As a row of changes, and the position that is read.
@@ -32,14 +32,16 @@ const READ: &[Place] = &[
 
 pub fn cases() -> Vec<Case> {
     let read = |&(label, changes, length, at): &Place| {
-        let list = changed(&REQUESTS, changes, length);
-        let skip = Task::SkipRequest {
-            list: list.clone(),
-            at,
+        let bytes = changed(&REQUESTS, changes, length);
+        let count = Task::CountRequests(bytes.clone());
+        let find = |what| {
+            let bytes = bytes.clone();
+            Task::At(At { bytes, at, what })
         };
         [
-            case(label, Task::ReadRequest { list, at }),
-            case(format!("{label}-skipped"), skip),
+            case(label, find(Read::Request)),
+            case(format!("{label}-skipped"), find(Read::SkippedRequest)),
+            case(format!("{label}-counted"), count),
         ]
     };
     let mut cases: Vec<Case> = READ.iter().flat_map(read).collect();

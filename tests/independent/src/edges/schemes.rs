@@ -1,6 +1,6 @@
 //! Schemes read: the key example and a command with all three groups, with single bytes changed; then the key example written.
 
-use super::examples::{changed, key_scheme, Row, GROUPS, KEY_SCHEME};
+use super::examples::{changed_rows, key_scheme, Row, GROUPS, KEY_SCHEME};
 use super::{case, Case, Task};
 
 /// What is cut, and a kind that may not stand there. The front comes before the kind, the kind before the body's end.
@@ -118,24 +118,30 @@ const ORDER: &[Row] = &[
 ];
 
 pub fn cases() -> Vec<Case> {
-    let key = [FRONTS, LENGTHS, HEAD, TESTS, OPERATIONS].concat();
     let mut cases = vec![key_scheme("table-of-schemes")];
-    cases.extend(read(&KEY_SCHEME, &key));
-    cases.extend(read(&GROUPS, ORDER));
+    for (label, bytes) in of_key().into_iter().chain(of_groups()) {
+        cases.extend(read(label, bytes));
+    }
     cases.extend(writings());
     cases
 }
 
+/// The key example with its changes, each with its label.
+pub fn of_key() -> Vec<(&'static str, Vec<u8>)> {
+    let rows = [FRONTS, LENGTHS, HEAD, TESTS, OPERATIONS].concat();
+    changed_rows(&KEY_SCHEME, &rows)
+}
+
+pub fn of_groups() -> Vec<(&'static str, Vec<u8>)> {
+    changed_rows(&GROUPS, ORDER)
+}
+
 /// Each reading with the table behind it written: where it was refused, the one before.
-fn read(bytes: &[u8], rows: &[Row]) -> Vec<Case> {
-    let read = |&(label, changes, length): &Row| {
-        let bytes = changed(bytes, changes, length);
-        [
-            case(label, Task::ReadScheme(bytes)),
-            case(format!("{label}-table"), Task::WriteScheme(50)),
-        ]
-    };
-    rows.iter().flat_map(read).collect()
+fn read(label: &str, bytes: Vec<u8>) -> [Case; 2] {
+    [
+        case(label, Task::ReadScheme(bytes)),
+        case(format!("{label}-table"), Task::WriteScheme(50)),
+    ]
 }
 
 /// Into more than enough, into just enough, into a byte less, into nothing.

@@ -7,7 +7,7 @@ use super::sums;
 use crate::matrix::{all_rights, Matrix, MOST_THINGS};
 use crate::scheme::{Operation, Scheme};
 
-const SEATS: usize = MOST_THINGS;
+pub const SEATS: usize = MOST_THINGS;
 /// How many cells a matrix has.
 pub const CELLS: usize = SEATS * SEATS;
 /// How many cells the program has, so that more can be lent than a matrix has.
@@ -33,9 +33,45 @@ impl Seats {
         sums::matrix(&self.ids, &self.types, &self.cells)
     }
 
-    pub fn set_thing(&mut self, seat: usize, id: u16, kind: u8) {
-        self.ids[seat] = id;
-        self.types[seat] = kind;
+    /// Past the last seat nothing changes.
+    pub fn put_thing(&mut self, seat: u64, id: u16, kind: u8) {
+        let seat = usize::try_from(seat).unwrap_or(SEATS);
+        if seat < SEATS {
+            self.ids[seat] = id;
+            self.types[seat] = kind;
+        }
+    }
+
+    /// Nobody sits past the last seat.
+    pub fn id_at(&self, seat: u8) -> u16 {
+        self.ids.get(usize::from(seat)).copied().unwrap_or(0)
+    }
+
+    /// The first of the first seats with this id, or how many those are.
+    pub fn seat_in(&self, first: u64, id: u16) -> usize {
+        let first = usize::try_from(first).map_or(SEATS, |first| first.min(SEATS));
+        let found = self.ids[..first].iter().position(|&other| other == id);
+        found.unwrap_or(first)
+    }
+
+    /// The type of the thing with this id, among those at the first seats. No thing has id 0.
+    pub fn type_of(&self, first: u64, id: u16) -> Option<u8> {
+        let ids = self.ids.iter().zip(0..first);
+        let mut things = ids.zip(&self.types).filter(|_| id != 0);
+        let found = things.find(|((&other, _), _)| other == id);
+        found.map(|(_, &kind)| kind)
+    }
+
+    pub fn no_things(&mut self) {
+        self.ids = [0; SEATS];
+        self.types = [0; SEATS];
+    }
+
+    /// As many sets as there are cells lent.
+    pub fn copy_cells(&mut self, sets: &[u64], lent: usize) {
+        for (cell, &set) in self.cells[..lent].iter_mut().zip(sets) {
+            *cell = set;
+        }
     }
 
     pub fn set_cell(&mut self, place: usize, rights: u64) {
@@ -44,10 +80,9 @@ impl Seats {
 
     /// As a reading leaves it: things by rising id, from the first seat on.
     pub fn read(&mut self, matrix: &Matrix) {
-        self.ids = [0; SEATS];
-        self.types = [0; SEATS];
+        self.no_things();
         for (seat, (&id, &kind)) in matrix.things().iter().enumerate() {
-            self.set_thing(seat, id, kind);
+            self.put_thing(seat as u64, id, kind);
         }
         self.fill(matrix);
     }
@@ -104,7 +139,7 @@ impl Seats {
             let (row, column) = (place / SEATS, place % SEATS);
             let subject = head.is_subject_type(self.types[row]);
             let exists = self.ids[row] != 0 && self.ids[column] != 0 && subject;
-            rights == 0 || exists && rights & !all_rights(head.rights.min(64)) == 0
+            rights == 0 || exists && rights & !all_rights(head.rights) == 0
         };
         let mut cells = self.cells[..CELLS].iter().enumerate();
         lent == CELLS && self.things_accepted(head) && cells.all(fits)

@@ -1,6 +1,9 @@
-//! Sets of rights, of types and of kinds: empty, full and in between, asked with numbers at the edges of what a set can hold.
+//! Sets of rights, of types and of kinds: empty, full and in between, asked with numbers at the edges of what a set can hold; and these numbers alone.
 
 use super::{case, Case, Task};
+
+/// Around the limits of parameters, types and rights.
+const NUMBERS: [u8; 9] = [0, 1, 7, 8, 15, 16, 63, 64, 255];
 
 pub fn cases() -> Vec<Case> {
     let mut cases = Vec::new();
@@ -26,6 +29,12 @@ pub fn cases() -> Vec<Case> {
         for kind in [0, 4, 5, 15, 16, 256, u16::MAX] {
             let label = format!("kinds-{name}-and-{kind}");
             cases.push(case(label, Task::Kinds { set, kind }));
+        }
+    }
+    for one in NUMBERS {
+        for other in NUMBERS {
+            let label = format!("number-{one}-and-{other}");
+            cases.push(case(label, Task::Numbers(one, other)));
         }
     }
     cases

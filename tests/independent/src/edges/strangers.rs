@@ -331,7 +331,7 @@ fn asked_of_matrix(label: &str, cells: u16) -> Vec<Case> {
 
 /// Things 5, 9 and 12 sit at 0, 1 and 2. A cell's place is 48 times its row's seat, and its column's seat.
 fn matrices() -> Vec<Stranger> {
-    let thing = |seat, id, kind| Task::SetThing { seat, id, kind };
+    let thing = |seat, id, kind| Task::PutThing { seat, id, kind };
     let cell = |place, rights| Task::SetCell { place, rights };
     let one = |label: &str, task: Task| stranger(label, vec![task]);
     vec![

@@ -1,4 +1,4 @@
-//! What the program `edges` can be asked, by its public functions, and how that stands in its input.
+//! What the program `edges` can be asked, by its public functions.
 
 /// A room is the length of the lent buffer, `at` a position. A task may change the scheme or the matrix that the cases behind it meet.
 #[derive(Clone, Debug, PartialEq, Eq)]
@@ -10,19 +10,36 @@ pub enum Task {
     SetCommand(SetCommand),
     /// The scheme is converted as a value.
     ConvertedScheme,
+    /// A command is read against the scheme's head, and what was read put at a place of the scheme's commands.
+    ReadCommand {
+        place: u8,
+        bytes: Vec<u8>,
+        at: u64,
+    },
+    /// The command of zeros is put at a place.
+    NoCommand(u8),
     ReadMatrix(Vec<u8>),
     ReadMatrixByHead(Vec<u8>),
-    SetThing {
-        seat: u8,
-        id: u16,
-        kind: u8,
-    },
     SetCell {
         place: u16,
         rights: u64,
     },
     /// The cells are converted where they lie.
     ConvertedCells,
+    /// Up to four sets are copied over the cells, from the first on.
+    CopyCells(Vec<u64>),
+    NoThings,
+    PutThing {
+        seat: u64,
+        id: u16,
+        kind: u8,
+    },
+    /// The things become those that the creates and destroys of a request leave, whose things sit at these spots.
+    Plan {
+        ask: Ask,
+        spots: [u8; 8],
+        parameter: u8,
+    },
     Request(Ask),
     List {
         list: Vec<u8>,
@@ -40,33 +57,26 @@ pub enum Task {
     /// What of the command with this number is.
     CommandAccepted(u64),
     Totals,
-    ReadRequest {
-        list: Vec<u8>,
-        at: u64,
+    /// What the checks of form look up in a command, of which so many operations count; and a code's group.
+    Form {
+        command: u8,
+        operations: u64,
+        parameter: u8,
+        code: u8,
     },
-    SkipRequest {
-        list: Vec<u8>,
-        at: u64,
+    /// The seat of an id, among the first seats and among all.
+    Seats {
+        first: u64,
+        id: u16,
     },
-    /// The record at a position, of one of these kinds, and the position behind it.
-    Record {
-        bytes: Vec<u8>,
-        at: u64,
-        kinds: u16,
+    /// The spots of a request's things, and that of one parameter.
+    Locate {
+        ask: Ask,
+        parameter: u8,
     },
-    Body {
-        bytes: Vec<u8>,
-        start: u64,
-        length: u64,
-    },
-    /// The fields of 1, 2 and 8 bytes at a position; that of 1 byte also with a least value, a limit and the number of its fault.
-    Fields {
-        bytes: Vec<u8>,
-        at: u64,
-        low: u8,
-        limit: u8,
-        number: u8,
-    },
+    At(At),
+    /// How many requests a list has.
+    CountRequests(Vec<u8>),
     /// All that is asked of a set of rights, a right and a number of rights.
     Rights {
         set: u64,
@@ -82,6 +92,8 @@ pub enum Task {
         set: u16,
         kind: u16,
     },
+    /// All that is asked of a number and another, as a right, a type and a parameter.
+    Numbers(u8, u8),
 }
 
 /// How many parameters, tests and operations a command has, and an operation (code, right, row, column) at one of its 32 places; none at a place
@@ -99,6 +111,47 @@ pub struct SetCommand {
 pub struct Ask {
     pub command: u8,
     pub ids: Vec<u16>,
+}
+
+/// What stands at a position of some bytes.
+#[derive(Clone, Debug, PartialEq, Eq)]
+pub struct At {
+    pub bytes: Vec<u8>,
+    pub at: u64,
+    pub what: Read,
+}
+
+#[derive(Clone, Debug, PartialEq, Eq)]
+pub enum Read {
+    Request,
+    /// Only where it ends.
+    SkippedRequest,
+    /// A record of one of these kinds and the position behind it; and one of any kind.
+    Record {
+        kinds: u16,
+    },
+    Body {
+        length: u64,
+    },
+    /// The fields of 1, 2 and 8 bytes; that of 1 byte also with a least value, a limit and the number of its fault.
+    Fields {
+        low: u8,
+        limit: u8,
+        number: u8,
+    },
+    SchemeHead,
+    MatrixHead(Context),
+    Thing(Context),
+    Cell(Context),
+}
+
+/// What the records before a matrix's record left: the kinds that may stand there, the place of the cell before (for a thing, the id before as its row),
+/// and how many of the first seats count. The scheme's head and the things are those of the cases.
+#[derive(Clone, Copy, Debug, PartialEq, Eq)]
+pub struct Context {
+    pub kinds: u16,
+    pub last: (u16, u16),
+    pub things: u64,
 }
 
 /// Into a buffer, at a position.
@@ -129,132 +182,10 @@ pub enum Stored {
         kind: u16,
         length: u16,
     },
-}
-
-/// The task's number, the room, the position, and its bytes.
-pub type Fields = (u8, u64, u64, Vec<u8>);
-
-impl Task {
-    pub fn fields(&self) -> Fields {
-        match self {
-            Task::Store(store) => store.fields(),
-            _ => {
-                let (number, bytes) = self.number_and_bytes();
-                (number, self.room(), self.at(), bytes)
-            }
-        }
-    }
-
-    fn number_and_bytes(&self) -> (u8, Vec<u8>) {
-        match self {
-            Task::ReadScheme(bytes) => (0, bytes.clone()),
-            Task::NoScheme => (1, vec![]),
-            Task::SetHead(n, m, subjects, commands) => {
-                let [low, high] = subjects.to_le_bytes();
-                (2, vec![*n, *m, low, high, *commands])
-            }
-            Task::SetCommand(set) => (3, set.bytes()),
-            Task::ConvertedScheme => (4, vec![]),
-            Task::ReadMatrix(bytes) => (10, bytes.clone()),
-            Task::ReadMatrixByHead(bytes) => (11, bytes.clone()),
-            Task::SetThing { seat, id, kind } => {
-                let [low, high] = id.to_le_bytes();
-                (12, vec![*seat, low, high, *kind])
-            }
-            Task::SetCell { place, rights } => (13, behind(&place.to_le_bytes(), &rights.to_le_bytes())),
-            Task::ConvertedCells => (14, vec![]),
-            Task::Request(ask) => (20, ask.bytes()),
-            Task::List { list, .. } => (21, list.clone()),
-            Task::ListQuietly(list) => (22, list.clone()),
-            Task::WriteScheme(_) => (30, vec![]),
-            Task::ConvertScheme(_) => (31, vec![]),
-            Task::WriteMatrix(_) => (32, vec![]),
-            Task::WriteMatrixByHead(_) => (33, vec![]),
-            Task::ConvertMatrix(_) => (34, vec![]),
-            _ => self.asking(),
-        }
-    }
-
-    /// Those that store nothing.
-    fn asking(&self) -> (u8, Vec<u8>) {
-        match self {
-            Task::Accepted => (50, vec![]),
-            Task::CommandAccepted(_) => (51, vec![]),
-            Task::Totals => (52, vec![]),
-            Task::ReadRequest { list, .. } => (60, list.clone()),
-            Task::SkipRequest { list, .. } => (61, list.clone()),
-            Task::Record { bytes, kinds, .. } => (62, behind(&kinds.to_le_bytes(), bytes)),
-            Task::Body { bytes, length, .. } => (63, behind(&length.to_le_bytes(), bytes)),
-            Task::Fields {
-                bytes,
-                low,
-                limit,
-                number,
-                ..
-            } => (64, behind(&[*low, *limit, *number], bytes)),
-            Task::Rights { set, right, n } => (70, behind(&set.to_le_bytes(), &[*right, *n])),
-            Task::Types { set, kind } => (71, behind(&set.to_le_bytes(), &[*kind])),
-            Task::Kinds { set, kind } => (72, behind(&set.to_le_bytes(), &kind.to_le_bytes())),
-            _ => unreachable!("it stores something"),
-        }
-    }
-
-    fn room(&self) -> u64 {
-        match self {
-            Task::List { room, .. }
-            | Task::WriteScheme(room)
-            | Task::ConvertScheme(room)
-            | Task::WriteMatrix(room)
-            | Task::WriteMatrixByHead(room)
-            | Task::ConvertMatrix(room) => *room,
-            _ => 0,
-        }
-    }
-
-    fn at(&self) -> u64 {
-        match self {
-            Task::CommandAccepted(command) => *command,
-            Task::ReadRequest { at, .. }
-            | Task::SkipRequest { at, .. }
-            | Task::Record { at, .. }
-            | Task::Fields { at, .. } => *at,
-            Task::Body { start, .. } => *start,
-            _ => 0,
-        }
-    }
-}
-
-impl SetCommand {
-    fn bytes(&self) -> Vec<u8> {
-        let counts = behind(&[self.command], &self.counts);
-        behind(&behind(&counts, &[self.place]), &self.operation)
-    }
-}
-
-impl Ask {
-    fn bytes(&self) -> Vec<u8> {
-        assert!(self.ids.len() <= 10, "the program takes no more");
-        let mut bytes = vec![self.command];
-        bytes.extend(self.ids.iter().flat_map(|id| id.to_le_bytes()));
-        bytes
-    }
-}
-
-impl Store {
-    fn fields(&self) -> Fields {
-        let (number, bytes) = match &self.what {
-            Stored::Request(ask) => (40, ask.bytes()),
-            Stored::Record { kind, body } => (41, behind(&kind.to_le_bytes(), body)),
-            Stored::Zeros { kind, length } => (42, behind(&kind.to_le_bytes(), &length.to_le_bytes())),
-            Stored::One(value) => (43, vec![*value]),
-            Stored::Two(value) => (44, value.to_le_bytes().to_vec()),
-            Stored::Eight(value) => (45, value.to_le_bytes().to_vec()),
-            Stored::Front { kind, length } => (46, behind(&kind.to_le_bytes(), &length.to_le_bytes())),
-        };
-        (number, self.room, self.at, bytes)
-    }
-}
-
-fn behind(first: &[u8], second: &[u8]) -> Vec<u8> {
-    [first, second].concat()
+    Text(Vec<u8>),
+    Decimal(u64),
+    /// A number and the byte behind it.
+    Number(u64, u8),
+    /// A line of up to four numbers.
+    Line(Vec<u64>),
 }

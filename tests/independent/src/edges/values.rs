@@ -78,14 +78,14 @@ impl SchemeValue {
 
     pub fn command_fault(&self, command: usize) -> u8 {
         let record = self.commands[command].record();
-        find_command(&record, &self.head()).map_or_else(|found| found.fault.number(), |_| 0)
+        find_command(&record, 0, &self.head()).map_or_else(|found| found.fault.number(), |_| 0)
     }
 
     /// Whether some reading gives this command behind this head, were it one.
     pub fn command_accepted(&self, command: usize) -> bool {
         let value = self.commands[command];
-        let read = find_command(&value.record(), &self.head());
-        read.is_ok_and(|command| CommandValue::of(&command) == value)
+        let read = find_command(&value.record(), 0, &self.head());
+        read.is_ok_and(|(command, _)| CommandValue::of(&command) == value)
     }
 
     pub fn set(&mut self, set: &SetCommand) {
@@ -113,7 +113,7 @@ impl SchemeValue {
 }
 
 impl CommandValue {
-    fn none() -> CommandValue {
+    pub fn none() -> CommandValue {
         CommandValue {
             counts: [0; 3],
             types: [0; 8],
@@ -122,7 +122,7 @@ impl CommandValue {
         }
     }
 
-    fn of(command: &Command) -> CommandValue {
+    pub fn of(command: &Command) -> CommandValue {
         let mut value = CommandValue::none();
         let counts = [
             command.parameters.len(),
@@ -140,6 +140,36 @@ impl CommandValue {
         value
     }
 
+    /// A count may be above the places that there are: no more than those are used.
+    pub fn used_types(&self) -> &[u8] {
+        &self.types[..usize::from(self.counts[0]).min(8)]
+    }
+
+    pub fn used_operations(&self) -> &[[u8; 4]] {
+        self.first_operations(self.counts[2].into())
+    }
+
+    /// Whatever the count is.
+    pub fn first_operations(&self, many: u64) -> &[[u8; 4]] {
+        &self.operations[..many.min(32) as usize]
+    }
+
+    /// A parameter's type, 0 for one that there isn't.
+    pub fn type_of(&self, parameter: u8) -> u8 {
+        let kind = self.used_types().get(usize::from(parameter));
+        kind.copied().unwrap_or(0)
+    }
+
+    pub fn is_new(&self, parameter: u8) -> bool {
+        names(self.used_operations(), 3, parameter)
+    }
+
+    /// As a row or as a column.
+    pub fn tests_name(&self, parameter: u8) -> bool {
+        let mut used = self.tests.iter().take(self.counts[1].into());
+        used.any(|&[_, _, row, column]| row == parameter || column == parameter)
+    }
+
     fn record(&self) -> Vec<u8> {
         let [parameters, tests, operations] = self.counts;
         let mut body = vec![parameters];
@@ -152,4 +182,10 @@ impl CommandValue {
         put_record(&mut out, COMMAND, &body);
         out
     }
+}
+
+/// Whether an operation of this code has the parameter as its row.
+pub fn names(operations: &[[u8; 4]], code: u8, parameter: u8) -> bool {
+    let mut operations = operations.iter();
+    operations.any(|&[other, _, row, _]| other == code && row == parameter)
 }

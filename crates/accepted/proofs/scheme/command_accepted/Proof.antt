@@ -2,7 +2,7 @@
 use mathlib.Core.Path.{sym, _∙_}
 use borrow.Author.Needs.{needs}
 use Rattle.model.specs.Accepted.{acceptedCommand}
-use Rattle.accepted.proofs.SchemeLaws.{not-first, held-first, passed, refused}
+use Rattle.accepted.proofs.SchemeLaws.{passed, refused}
 use Rattle.accepted.proofs.scheme.command_accepted.Statement.{statement}
 use Rattle.accepted.proofs.scheme.command_accepted.Tie as tie
 
@@ -17,15 +17,14 @@ enum-told-2 c = search needs
 
 returns : tie.Need-returns
 unfolding acceptedCommand
-returns c = sym (not-first _ _ (refused _ _ (sym (c .enum-told2 .given .1) ∙ c .before .before .command-fault .ensures)))
+returns c = rw (refused _ _ (sym (c .enum-told2 .given .1) ∙ c .before .before .command-fault .ensures))
 
 padded-command-requires : tie.Need-padded-command-requires
 padded-command-requires c κs = search needs
 
 returns-2 : tie.Need-returns-2
 unfolding acceptedCommand
-returns-2 c =
-    c .padded-command .ensures ∙ held-first _ _ (passed _ (sym (c .before .enum-told .given .1) ∙ c .before .before .before .command-fault .ensures))
+returns-2 c = c .padded-command .ensures ∙ rw (passed _ (sym (c .before .enum-told .given .1) ∙ c .before .before .before .command-fault .ensures))
 
 pub command-accepted-spec : {M : Type 1} → statement M
 command-accepted-spec =

@@ -1,41 +1,32 @@
--- The walk over the commands in use stops at the first that is not accepted.
+-- The walk over all places carries along whether each was accepted.
 use Prim.Native.Nat.{_-_}
-use mathlib.Core.Path.{refl, sym, _∙_}
-use native.Mathlib.Omega.{arith}
 use borrow.Author.Needs.{needs}
-use borrow.Author.Tests.{not-true, not-false}
-use Rattle.model.specs.Check.{all}
-use Rattle.model.specs.Scheme.{commandsOf}
-use Rattle.model.specs.Accepted.{acceptedCommand}
-use Rattle.accepted.proofs.Walks.{long, Walk, start, on, out, end, all-on, all-out}
+use Rattle.laws.proofs.Walks.{long}
+use Rattle.model.specs.Accepted.{acceptedCommand, zeroCommand}
+use Rattle.accepted.proofs.SchemeLaws.{Filled, filled-start, filled-on, filled-end}
 use Rattle.accepted.proofs.scheme.commands_accepted.Statement.{statement}
 use Rattle.accepted.proofs.scheme.commands_accepted.Tie as tie
 
 abbrev Inv-loop : tie.InvT-loop
-Inv-loop s h n i₀ i = let f = acceptedCommand (s .head) in Walk (λ j. all f) (s .commands) n (all f (commandsOf s)) i
+Inv-loop s n fine₀ i₀ fine i = Filled (acceptedCommand (s .head)) zeroCommand n (s .commands) 32 fine i
 
 abbrev μ-loop : tie.MeasureT-loop
-μ-loop s h n i₀ i = n - i
+μ-loop s n fine₀ i₀ fine i = 32 - i
 
 cast-n : tie.Need-cast-n Inv-loop μ-loop
 cast-n c = search needs
 
 loop-holds : tie.Need-loop-holds Inv-loop μ-loop
-loop-holds c = start 32 (search (needs, long)) (omega arith) refl
+loop-holds c = filled-start _ _ _ 32 _ (search (needs, long))
 
-mul-c : tie.Need-mul-c Inv-loop μ-loop
-mul-c c = search needs
+mul-place-accepted : tie.Need-mul-place-accepted Inv-loop μ-loop
+mul-place-accepted c = search needs
 
-element-copy-out-c : tie.Need-element-copy-out-c Inv-loop μ-loop
-element-copy-out-c c = search needs
+element-copy-out-place-accepted : tie.Need-element-copy-out-place-accepted Inv-loop μ-loop
+element-copy-out-place-accepted c = search needs
 
-command-accepted-requires : tie.Need-command-accepted-requires Inv-loop μ-loop
-command-accepted-requires c κs = search needs
-
-returns : tie.Need-returns Inv-loop μ-loop
-returns c =
-    let e = sym (c .before .command-accepted .ensures) ∙ not-true _ (c .if1 .taken) in
-    out (c .before .before .before .before .loop .inv) _ _ (omega arith) (all-out _ _ e)
+place-accepted-requires : tie.Need-place-accepted-requires Inv-loop μ-loop
+place-accepted-requires c κs = search needs
 
 add-i : tie.Need-add-i Inv-loop μ-loop
 add-i c = search needs
@@ -45,12 +36,11 @@ loop-less c = search needs
 
 loop-again : tie.Need-loop-again Inv-loop μ-loop
 loop-again c =
-    let e = sym (c .before .command-accepted .ensures) ∙ not-false _ (c .if1 .left) in
-    on (c .before .before .before .before .loop .inv) _ (omega arith) (all-on _ _ e)
+    let t = c .before .before .before in
+    filled-on _ _ _ (t .before .loop .inv) _ _ (t .loop-test .taken) (c .place-accepted .ensures)
 
-returns-2 : tie.Need-returns-2 Inv-loop μ-loop
-unfolding all
-returns-2 c = end (c .before .loop .inv) (omega arith)
+returns : tie.Need-returns Inv-loop μ-loop
+returns c = filled-end _ _ _ (c .before .loop .inv) (c .loop-test .left)
 
 pub commands-accepted-spec : {M : Type 1} → statement M
 commands-accepted-spec =
@@ -60,11 +50,10 @@ commands-accepted-spec =
     μ-loop
     cast-n
     loop-holds
-    mul-c
-    element-copy-out-c
-    command-accepted-requires
-    returns
+    mul-place-accepted
+    element-copy-out-place-accepted
+    place-accepted-requires
     add-i
     loop-less
     loop-again
-    returns-2)
+    returns)

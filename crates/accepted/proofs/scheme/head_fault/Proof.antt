@@ -1,65 +1,55 @@
--- The head: its fields in turn, and the first that is out of its limits decides.
-use mathlib.Core.Path.{_≡_, sym, _∙_}
-use mathlib.Core.Bool.{true, false}
+-- The chain of checks is the definition's.
 use borrow.Author.Needs.{needs}
-use borrow.Author.Tests.{not-true, not-false}
-use Rattle.rights.specs.Sets.{within}
-use Rattle.model.specs.Check.{must, _orElse_}
-use Rattle.model.specs.Accepted.{between, headFault}
-use Rattle.accepted.proofs.SchemeLaws.{tested}
+use Rattle.model.specs.Accepted.{headFault}
+use Rattle.accepted.proofs.SchemeLaws.{first, then, or-later}
 use Rattle.accepted.proofs.scheme.head_fault.Statement.{statement}
 use Rattle.accepted.proofs.scheme.head_fault.Tie as tie
 
-inside : (c : tie.Else5) →
-    let a = c .before .before .before .before .before .before .before .before .before .before .args in within (a .h .types) (a .h .subjects .0) ≡ true
-inside c = sym (c .before .within .ensures) ∙ not-false _ (c .if5 .left)
+between-requires : tie.Need-between-requires
+between-requires c κs = search needs
 
-returns : tie.Need-returns
-unfolding must _orElse_ between headFault
-returns c = search tested
+must-requires : tie.Need-must-requires
+must-requires c κs = search needs
 
-returns-2 : tie.Need-returns-2
-unfolding must _orElse_ between headFault
-returns-2 c = search tested
+between-requires-2 : tie.Need-between-requires-2
+between-requires-2 c κs = search needs
 
-returns-3 : tie.Need-returns-3
-unfolding must _orElse_ between headFault
-returns-3 c = search tested
-
-returns-4 : tie.Need-returns-4
-unfolding must _orElse_ between headFault
-returns-4 c = search tested
+then-must-requires : tie.Need-then-must-requires
+then-must-requires c κs = search needs
 
 within-requires : tie.Need-within-requires
 within-requires c κs = search needs
 
-returns-5 : tie.Need-returns-5
-unfolding must _orElse_ between headFault
-returns-5 c =
-    let e : within _ _ ≡ false = sym (c .before .within .ensures) ∙ not-true _ (c .if5 .taken) in search (tested, e)
+then-must-requires-2 : tie.Need-then-must-requires-2
+then-must-requires-2 c κs = search needs
 
-returns-6 : tie.Need-returns-6
-unfolding must _orElse_ between headFault
-returns-6 c = search (tested, inside (c .before .before))
+between-requires-3 : tie.Need-between-requires-3
+between-requires-3 c κs = search needs
 
-returns-7 : tie.Need-returns-7
-unfolding must _orElse_ between headFault
-returns-7 c = search (tested, inside (c .before .before .before .before))
+then-must-requires-3 : tie.Need-then-must-requires-3
+then-must-requires-3 c κs = search needs
 
-returns-8 : tie.Need-returns-8
-unfolding must _orElse_ between headFault
-returns-8 c = search (tested, inside (c .before .before .before .before))
+returns : tie.Need-returns
+unfolding headFault
+returns c =
+    let s = c .before .before in
+    let t = s .before .before in
+    let u = t .before .before in
+    let one = first 4 (u .before .between .ensures) (u .must .ensures) in
+    let two = then 4 (t .before .between2 .ensures) one (t .then-must .ensures) in
+    let three = then 6 (s .before .within .ensures) two (s .then-must2 .ensures) in
+    simp or-later at (then 4 (c .before .between3 .ensures) three (c .then-must3 .ensures) .is)
 
 pub head-fault-spec : {M : Type 1} → statement M
 head-fault-spec =
     tie.close
     (tie.spec
-    returns
-    returns-2
-    returns-3
-    returns-4
+    between-requires
+    must-requires
+    between-requires-2
+    then-must-requires
     within-requires
-    returns-5
-    returns-6
-    returns-7
-    returns-8)
+    then-must-requires-2
+    between-requires-3
+    then-must-requires-3
+    returns)

@@ -1,5 +1,8 @@
 -- The cells are copied and converted; the converted matrix is accepted, so nothing but room can refuse its writing.
+use mathlib.Core.Path.{_∙_}
 use borrow.Author.Needs.{needs}
+use Rattle.model.specs.Seats.{matrixOf}
+use Rattle.things.proofs.SeatLaws.{copy-all}
 use Rattle.conversion.proofs.Converted.{converts}
 use Rattle.convert.proofs.AnswerLaws.{matrix-27, rights-few, matrix-refused, matrix-done}
 use Rattle.convert.proofs.bytes.convert_matrix.Statement.{statement}
@@ -30,7 +33,9 @@ converted-head-requires : tie.Need-converted-head-requires
 converted-head-requires c κs =
     let t = c .before in
     let k = t .before .before .before in
-    rights-few _ _ _ (k .before .before .before .copy-cells .ensures) _ _ (k .converted-cells .ensures) (t .enum-told .given .1)
+    let s = k .before .before .before in
+    let a = s .before .before .before .before .before .args in
+    rights-few _ (matrixOf (a .th) (a .cells .now)) _ (s .copy-cells .ensures ∙ copy-all _ _ (search needs)) _ _ (k .converted-cells .ensures) (t .enum-told .given .1)
 
 slice-aggregate-write-matrix-by-head : tie.Need-slice-aggregate-write-matrix-by-head
 slice-aggregate-write-matrix-by-head c = search needs
@@ -41,7 +46,7 @@ write-matrix-by-head-requires c κs = search needs
 returns-2 : tie.Need-returns-2
 returns-2 c =
     let k = c .before .before .before .before in
-    matrix-refused _ _ _ (k .before .before .before .copy-cells .ensures) _ _ (k .converted-cells .ensures) _ _ (c .before .x .given .1)
+    matrix-refused _ _ _ (k .before .before .before .copy-cells .ensures ∙ copy-all _ _ (search needs)) _ _ (k .converted-cells .ensures) _ _ (c .before .x .given .1)
 
 same-length : tie.Need-same-length
 same-length c = search needs
@@ -52,7 +57,7 @@ returns-3 c =
     let h = w .before .before .before in
     let t = h .before .before in
     let k = t .before .before .before in
-    matrix-done _ _ _ (k .before .before .before .copy-cells .ensures) _ _ (k .converted-cells .ensures) _ converts (t .enum-told .given .1) _
+    matrix-done _ _ _ (k .before .before .before .copy-cells .ensures ∙ copy-all _ _ (search needs)) _ _ (k .converted-cells .ensures) _ converts (t .enum-told .given .1) _
     (h .converted-head .ensures) _ _ (w .write-matrix-by-head .ensures)
 
 pub convert-matrix-spec : {M : Type 1} → statement M

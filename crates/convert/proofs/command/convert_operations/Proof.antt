@@ -4,18 +4,18 @@ use native.Mathlib.Omega.{arith}
 use mathlib.Core.Path.{_≡_}
 use lib.ListN.{length, replicate}
 use borrow.Author.Needs.{needs}
-use Rattle.accepted.specs.Answers.{bodyOf}
-use Rattle.accepted.proofs.Walks.{long}
+use Rattle.laws.proofs.Walks.{long}
 use Rattle.conversion.specs.Conversion.{convertOperations}
-use Rattle.convert.specs.Parts.{operationsFrom}
-use Rattle.convert.proofs.Filling.{Filling}
+use Rattle.laws.proofs.Filling.{Filling}
 use Rattle.convert.proofs.CommandLaws.{none, paired-begin, paired-on, paired-all}
 use Rattle.convert.proofs.command.convert_operations.Statement.{statement}
 use Rattle.convert.proofs.command.convert_operations.Tie as tie
+use Rattle.model.specs.Scheme.{operationsOf}
+use Rattle.model.specs.Arrays.{operationsFrom}
 
 abbrev Inv-loop : tie.InvT-loop
 Inv-loop n o count list₀ j₀ list j =
-    (j ≤ count) × (o .count ≤ length (o .list)) × Filling (operationsFrom (convertOperations n (bodyOf o)) .list) (replicate 32 none) list (2 * j)
+    (j ≤ count) × (o .count ≤ length (o .list)) × Filling (operationsFrom (convertOperations n (operationsOf o)) .list) (replicate 32 none) list (2 * j)
 
 abbrev μ-loop : tie.MeasureT-loop
 μ-loop n o count list₀ j₀ list j = count - j

@@ -1,32 +1,28 @@
 -- After j turns the first j tests are the converted ones; behind those in use stand zeros before and after.
-use Prim.Native.Nat.{_+_, _≤_}
+use Prim.Native.Nat.{_-_, _≤_}
 use native.Mathlib.Omega.{arith}
-use mathlib.Core.Path.{_≡_}
 use mathlib.Core.List.{map}
 use borrow.Author.Needs.{needs}
-use Rattle.accepted.specs.Answers.{listOf}
-use Rattle.scheme_bytes.proofs.Padded.{no-test}
 use Rattle.conversion.specs.Conversion.{convertTest}
-use Rattle.convert.specs.Parts.{testsFrom}
-use Rattle.convert.proofs.Filling.{Filling, changed-begin, changed-on, changed-all, changed-used}
+use Rattle.laws.proofs.Filling.{Filling, changed-begin, changed-on, changed-all, changed-used}
 use Rattle.convert.proofs.command.convert_tests.Statement.{statement}
 use Rattle.convert.proofs.command.convert_tests.Tie as tie
+use Rattle.model.specs.Scheme.{testsOf}
+use Rattle.model.specs.Arrays.{testsFrom}
+use Rattle.command_bytes.proofs.Padded.{no-test}
 
 abbrev Inv-loop : tie.InvT-loop
-Inv-loop n t list₀ j₀ left₀ list j left =
-    (t .count ≤ 16) × (j + left ≡ t .count) × Filling (testsFrom (map (convertTest n) (listOf t)) .list) (t .list) list j
+Inv-loop n t count list₀ j₀ list j =
+    (t .count ≤ 16) × (j ≤ t .count) × Filling (testsFrom (map (convertTest n) (testsOf t)) .list) (t .list) list j
 
 abbrev μ-loop : tie.MeasureT-loop
-μ-loop n t list₀ j₀ left₀ list j left = left
+μ-loop n t count list₀ j₀ list j = t .count - j
 
-cast-left : tie.Need-cast-left Inv-loop μ-loop
-cast-left c = search needs
+cast-count : tie.Need-cast-count Inv-loop μ-loop
+cast-count c = search needs
 
 loop-holds : tie.Need-loop-holds Inv-loop μ-loop
 loop-holds c = let p = c .before .pre in (p .0, omega arith, changed-begin _ no-test 16 _ _ (p .1) (p .0))
-
-sub-left : tie.Need-sub-left Inv-loop μ-loop
-sub-left c = search needs
 
 mul-one : tie.Need-mul-one Inv-loop μ-loop
 mul-one c = search needs
@@ -74,9 +70,8 @@ convert-tests-spec =
     (tie.spec
     Inv-loop
     μ-loop
-    cast-left
+    cast-count
     loop-holds
-    sub-left
     mul-one
     element-copy-out-one
     convert-test-requires

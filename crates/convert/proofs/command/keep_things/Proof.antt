@@ -4,15 +4,15 @@ use mathlib.Core.Path.{refl, sym, _∙_}
 use native.Mathlib.Omega.{arith}
 use borrow.Author.Needs.{needs}
 use borrow.Author.Tests.{not-true, not-false}
-use Rattle.model.specs.Check.{all}
-use Rattle.accepted.specs.Answers.{bodyOf, noOperation}
-use Rattle.accepted.proofs.Walks.{long, Walk, start, on, out, end, all-on, all-out}
-use Rattle.convert.specs.Parts.{keepsAll}
+use Rattle.laws.specs.Check.{all}
+use Rattle.laws.proofs.Walks.{long, Walk, start, on, out, end, all-on, all-out}
 use Rattle.convert.proofs.command.keep_things.Statement.{statement}
 use Rattle.convert.proofs.command.keep_things.Tie as tie
+use Rattle.model.specs.Scheme.{noOperation, operationsOf}
+use Rattle.conversion.specs.Conversion.{keepsAll}
 
 abbrev Inv-loop : tie.InvT-loop
-Inv-loop o count j₀ j = Walk (λ i. keepsAll) (o .list) count (keepsAll (bodyOf o)) j
+Inv-loop o count j₀ j = Walk (λ i. keepsAll) (o .list) count (keepsAll (operationsOf o)) j
 
 abbrev μ-loop : tie.MeasureT-loop
 μ-loop o count j₀ j = count - j

@@ -5,7 +5,7 @@ use denote.Ref.{now}
 use borrow.Author.Needs.{needs}
 use borrow.Author.Tests.{not-true, not-false}
 use Rattle.model.specs.Accepted.{acceptedScheme, acceptedMatrix}
-use Rattle.model.proofs.Bools.{from-true}
+use Rattle.laws.proofs.Bools.{from-true}
 use Rattle.conversion.proofs.Lists.{few-rights}
 use Rattle.convert.proofs.AnswerLaws.{convertible-if, cells-27, cells-27-too, cells-refused, cells-done}
 use Rattle.convert.proofs.matrix.converted_cells.Statement.{statement}

@@ -4,9 +4,9 @@ use mathlib.Core.Path.{refl}
 use native.Mathlib.Omega.{arith}
 use borrow.Author.Needs.{needs}
 use borrow.Author.Tests.{le-leb, lt-leb}
-use Rattle.model.specs.Check.{all}
+use Rattle.laws.specs.Check.{all}
 use Rattle.model.specs.Scheme.{commandsOf}
-use Rattle.accepted.proofs.Walks.{long, Walk, start, on, out, end, all-on, all-out}
+use Rattle.laws.proofs.Walks.{long, Walk, start, on, out, end, all-on, all-out}
 use Rattle.convert.proofs.SchemeLaws.{fits, in-range}
 use Rattle.convert.proofs.scheme.all_fit.Statement.{statement}
 use Rattle.convert.proofs.scheme.all_fit.Tie as tie

@@ -4,9 +4,9 @@ use mathlib.Core.Path.{refl, sym, _∙_}
 use native.Mathlib.Omega.{arith}
 use borrow.Author.Needs.{needs}
 use borrow.Author.Tests.{not-true, not-false}
-use Rattle.model.specs.Check.{all}
+use Rattle.laws.specs.Check.{all}
 use Rattle.model.specs.Scheme.{commandsOf}
-use Rattle.accepted.proofs.Walks.{long, Walk, start, on, out, end, all-on, all-out}
+use Rattle.laws.proofs.Walks.{long, Walk, start, on, out, end, all-on, all-out}
 use Rattle.convert.proofs.SchemeLaws.{keeps, in-range, few-operations}
 use Rattle.convert.proofs.scheme.all_keep_things.Statement.{statement}
 use Rattle.convert.proofs.scheme.all_keep_things.Tie as tie

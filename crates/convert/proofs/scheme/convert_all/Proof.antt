@@ -4,7 +4,7 @@ use native.Mathlib.Omega.{arith}
 use borrow.Author.Needs.{needs}
 use Rattle.conversion.specs.Conversion.{convertScheme}
 use Rattle.conversion.proofs.Lists.{few-rights}
-use Rattle.convert.proofs.Filling.{Filling}
+use Rattle.laws.proofs.Filling.{Filling}
 use Rattle.convert.proofs.SchemeLaws.{in-range, command-convertible, converted-begin, converted-on, converted-all}
 use Rattle.convert.proofs.scheme.convert_all.Statement.{statement}
 use Rattle.convert.proofs.scheme.convert_all.Tie as tie

@@ -4,7 +4,7 @@ use mathlib.Core.Path.{_≡_, sym, _∙_}
 use borrow.Author.Needs.{needs}
 use borrow.Author.Tests.{not-true, not-false}
 use Rattle.model.specs.Accepted.{acceptedScheme}
-use Rattle.model.proofs.Bools.{from-true}
+use Rattle.laws.proofs.Bools.{from-true}
 use Rattle.convert.proofs.AnswerLaws.{scheme-27, convertible-if, scheme-refused, scheme-done}
 use Rattle.convert.proofs.scheme.converted_scheme.Statement.{statement}
 use Rattle.convert.proofs.scheme.converted_scheme.Tie as tie

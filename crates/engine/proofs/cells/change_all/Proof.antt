@@ -1,31 +1,28 @@
--- What is left of the operations, on the cells so far, gives what all of them give on the first.
-use Prim.Native.Nat.{_≤_, _-_}
-use mathlib.Core.Path.{_≡_, sym, _∙_}
+-- The walk over the operations in use: what is left of them, on the cells so far, gives what all of them give on the first.
+use Prim.Native.Nat.{_-_}
+use mathlib.Core.Path.{_≡_, refl, _∙_}
 use native.Mathlib.Omega.{arith}
-use lib.ListN.{length, take, drop}
+use lib.ListN.{length}
+use Rattle.laws.proofs.Walks.{long, Walk, start, on, end}
+use Rattle.model.specs.Scheme.{operationsOf, noOperation}
+use Rattle.engine.specs.Inner.Cells.{cellsAfter}
+use Rattle.engine.proofs.CellLaws.{after-on}
 use borrow.Author.Needs.{needs}
-use Rattle.engine.specs.Plan.{cellsAfter}
-use Rattle.accepted.proofs.Walks.{long}
-use Rattle.engine.proofs.CellLaws.{after-turn, after-end}
 use Rattle.engine.proofs.cells.change_all.Statement.{statement}
 use Rattle.engine.proofs.cells.change_all.Tie as tie
 
 abbrev Inv-loop : tie.InvT-loop
-Inv-loop cells₀ at o n i₀ cells i =
-    (i ≤ n) × (length cells ≡ 2304) × (cellsAfter at (take n (o .list)) cells₀ ≡ cellsAfter at (drop i (take n (o .list))) cells)
+Inv-loop cells₀ spots o n i₀ cells i =
+    (length cells ≡ 2304) × Walk (λ j os. cellsAfter spots os cells) (o .list) n (cellsAfter spots (operationsOf o) cells₀) i
 
 abbrev μ-loop : tie.MeasureT-loop
-μ-loop cells₀ at o n i₀ cells i = n - i
-
--- the operations in use are within the list
-within : (c : tie.At-loop Inv-loop μ-loop) → c .before .before .args .t3 .count ≤ length (c .before .before .args .t3 .list)
-within c = let e : length (c .before .before .args .t3 .list) ≡ 32 = search (needs, long) in omega arith
+μ-loop cells₀ spots o n i₀ cells i = n - i
 
 cast-n : tie.Need-cast-n Inv-loop μ-loop
 cast-n c = search needs
 
 loop-holds : tie.Need-loop-holds Inv-loop μ-loop
-loop-holds c = search needs
+loop-holds c = (search needs, start 32 (search (needs, long)) (omega arith) refl)
 
 mul-one : tie.Need-mul-one Inv-loop μ-loop
 mul-one c = search needs
@@ -45,22 +42,15 @@ loop-less c = search needs
 loop-again : tie.Need-loop-again Inv-loop μ-loop
 loop-again c =
     let k = c .before .before .change-one in
-    let s = c .before .before .before .before .before .before in
-    let a = s .before .before .args in (
-      search needs,
-      k .kept .0 ∙ s .loop .inv .1,
-      s .loop .inv .2
-          ∙ after-turn (a .at) (a .t3 .list) (a .t3 .count) (within s) (s .loop .i) (s .loop .cells) _ (search needs) _ (k .ensures),
-    )
+    let l = c .before .before .before .before .before .before in
+    (k .kept .0 ∙ l .loop .inv .0, on (l .loop .inv .1) noOperation (omega arith) (after-on _ _ _ _ (k .ensures)))
 
 same-length : tie.Need-same-length Inv-loop μ-loop
 same-length c = search needs
 
 returns : tie.Need-returns Inv-loop μ-loop
-returns c =
-    let s = c .before in
-    let a = s .before .before .args in
-    sym (s .loop .inv .2 ∙ after-end (a .at) (a .t3 .list) (a .t3 .count) (within s) (s .loop .i) (s .loop .cells) (search needs))
+unfolding cellsAfter
+returns c = end (c .before .loop .inv .1) (omega arith)
 
 pub change-all-spec : {M : Type 1} → statement M
 change-all-spec =

@@ -1,7 +1,7 @@
 -- What the calls give is what `cellsBy` says of the code.
 use mathlib.Core.Path.{_∙_}
+use Rattle.engine.specs.Inner.Cells.{cellsBy}
 use borrow.Author.Needs.{needs}
-use Rattle.engine.specs.Plan.{changeAt, cellsBy}
 use Rattle.engine.proofs.cells.change_one.Statement.{statement}
 use Rattle.engine.proofs.cells.change_one.Tie as tie
 
@@ -11,14 +11,8 @@ enum-told c = search needs
 place-at-requires : tie.Need-place-at-requires
 place-at-requires c κs = search needs
 
-cell-at-requires : tie.Need-cell-at-requires
-cell-at-requires c κs = search needs
-
-enter-requires : tie.Need-enter-requires
-enter-requires c κs = search needs
-
-put-cell-requires : tie.Need-put-cell-requires
-put-cell-requires c κs = search needs
+enter-at-requires : tie.Need-enter-at-requires
+enter-at-requires c κs = search needs
 
 enum-told-2 : tie.Need-enum-told-2
 enum-told-2 c = search needs
@@ -26,14 +20,8 @@ enum-told-2 c = search needs
 place-at-requires-2 : tie.Need-place-at-requires-2
 place-at-requires-2 c κs = search needs
 
-cell-at-requires-2 : tie.Need-cell-at-requires-2
-cell-at-requires-2 c κs = search needs
-
-delete-requires : tie.Need-delete-requires
-delete-requires c κs = search needs
-
-put-cell-requires-2 : tie.Need-put-cell-requires-2
-put-cell-requires-2 c κs = search needs
+delete-at-requires : tie.Need-delete-at-requires
+delete-at-requires c κs = search needs
 
 enum-told-3 : tie.Need-enum-told-3
 enum-told-3 c = search needs
@@ -44,6 +32,9 @@ enum-told-4 c = search needs
 seat-at-requires : tie.Need-seat-at-requires
 seat-at-requires c κs = search needs
 
+cast-blank-seat : tie.Need-cast-blank-seat
+cast-blank-seat c = search needs
+
 blank-seat-requires : tie.Need-blank-seat-requires
 blank-seat-requires c κs = search needs
 
@@ -51,23 +42,19 @@ same-length : tie.Need-same-length
 same-length c = search needs
 
 returns : tie.Need-returns
-unfolding cellsBy changeAt
+unfolding cellsBy
 returns c =
     let s = c .before .before in
-    let t = s .before .before .before .before .before in
-    s .put-cell .ensures
-    ∙ rw (s .before .before .enter .ensures, s .before .before .before .cell-at .ensures, t .place-at .ensures, t .before .enum-told .given .1)
+    s .enter-at .ensures ∙ rw (s .before .place-at .ensures, s .before .before .before .enum-told .given .1)
 
 same-length-2 : tie.Need-same-length-2
 same-length-2 c = search needs
 
 returns-2 : tie.Need-returns-2
-unfolding cellsBy changeAt
+unfolding cellsBy
 returns-2 c =
     let s = c .before .before in
-    let t = s .before .before .before .before .before in
-    s .put-cell2 .ensures
-    ∙ rw (s .before .before .delete .ensures, s .before .before .before .cell-at2 .ensures, t .place-at2 .ensures, t .before .enum-told2 .given .1)
+    s .delete-at .ensures ∙ rw (s .before .place-at2 .ensures, s .before .before .before .enum-told2 .given .1)
 
 returns-3 : tie.Need-returns-3
 unfolding cellsBy
@@ -80,7 +67,7 @@ returns-4 : tie.Need-returns-4
 unfolding cellsBy
 returns-4 c =
     let s = c .before .before in
-    s .blank-seat .ensures ∙ rw (s .before .seat-at .ensures .0, s .before .before .before .enum-told4 .given .1)
+    s .blank-seat .ensures ∙ rw (s .before .seat-at .ensures, s .before .before .before .enum-told4 .given .1)
 
 pub change-one-spec : {M : Type 1} → statement M
 change-one-spec =
@@ -88,17 +75,14 @@ change-one-spec =
     (tie.spec
     enum-told
     place-at-requires
-    cell-at-requires
-    enter-requires
-    put-cell-requires
+    enter-at-requires
     enum-told-2
     place-at-requires-2
-    cell-at-requires-2
-    delete-requires
-    put-cell-requires-2
+    delete-at-requires
     enum-told-3
     enum-told-4
     seat-at-requires
+    cast-blank-seat
     blank-seat-requires
     same-length
     returns

@@ -1,6 +1,6 @@
 -- The two cases of the test's sign.
+use Rattle.engine.proofs.CellLaws.{holds-present, holds-absent}
 use borrow.Author.Needs.{needs}
-use Rattle.engine.specs.Plan.{holdsAt}
 use Rattle.engine.proofs.cells.holds.Statement.{statement}
 use Rattle.engine.proofs.cells.holds.Tie as tie
 
@@ -14,12 +14,10 @@ has-requires : tie.Need-has-requires
 has-requires c κs = search needs
 
 returns : tie.Need-returns
-unfolding holdsAt
-returns c = rw (c .if1 .taken) (cc)
+returns c = let k = c .before .before in holds-present _ _ _ _ (k .before .place-at .ensures) _ (k .cell-at .ensures) _ (c .before .has .ensures) (c .if1 .taken)
 
 returns-2 : tie.Need-returns-2
-unfolding holdsAt
-returns-2 c = rw (c .if1 .left) (cc)
+returns-2 c = let k = c .before .before in holds-absent _ _ _ _ (k .before .place-at .ensures) _ (k .cell-at .ensures) _ (c .before .has .ensures) (c .if1 .left)
 
 pub holds-spec : {M : Type 1} → statement M
 holds-spec = tie.close (tie.spec place-at-requires cell-at-requires has-requires returns returns-2)

@@ -1,22 +1,24 @@
--- What is carried out and what is left are the whole; a turn is a step of the model, and its answer is stored where there is room.
+-- What is done and what is left are the whole: each turn is a step of the model, and its reply is stored where there is room.
 -- Assumes nothing.
 use Prim.Native.Nat.{_-_, _<_}
 use native.Mathlib.Omega.{arith}
 use mathlib.Core.Logic.{⊎-elim}
 use mathlib.Core.Path.{_≡_, sym, _∙_}
-use lib.ListN.{length, set}
-use lib.Seq.{length-take-le, set-out}
-use borrow.Author.Needs.{needs}
+use lib.ListN.{length}
+use lib.Seq.{length-take-le}
+use Rattle.model.specs.Seats.{matrixOf}
 use Rattle.model.proofs.HeldLaws.{held}
+use Rattle.request_bytes.proofs.Answered.{taken}
+use Rattle.engine.proofs.PlanIsStep.{counted}
 use Rattle.engine.proofs.StepLaws.{few-commands, command-ready}
-use Rattle.engine.proofs.ListLaws.{taken, Turned, turned-none, turned-some}
-use Rattle.engine.proofs.ListLaws.{Running, running-start, same-room, running-on, run-none, run-stop}
+use Rattle.engine.proofs.ListLaws.{Turned, turned-none, turned-some, Running, running-start, same-room, running-on, run-none, run-stop}
+use borrow.Author.Needs.{needs}
 use Rattle.engine.proofs.list.run_all.Statement.{statement}
 use Rattle.engine.proofs.list.run_all.Tie as tie
 
 abbrev Inv-loop : tie.InvT-loop
 Inv-loop cells₀ bytes out₀ s h things₀ n₀ p₀ cells out things n p =
-    Running s (record { things = things₀; cells = cells₀ }) bytes out₀ (record { things = things; cells = cells }) out n p
+    Running s (matrixOf things₀ cells₀) bytes out₀ (matrixOf things cells) out n p
 
 abbrev μ-loop : tie.MeasureT-loop
 μ-loop cells₀ bytes out₀ s h things₀ n₀ p₀ cells out things n p = length bytes - p
@@ -33,7 +35,7 @@ enum-known-answer c = search needs
 ended-requires : tie.Need-ended-requires Inv-loop μ-loop
 ended-requires c κs = search needs
 
--- the cells and the buffer are as long as they came
+-- the cells are as long as they came
 cells-room : (c : tie.At-loop Inv-loop μ-loop) → length (c .loop .cells) ≡ length (c .before .before .before .before .before .args .cells .now)
 cells-room c = held _ _ (c .loop .inv .held) .cells .room ∙ sym (held _ _ (c .before .before .before .before .before .pre .1) .cells .room)
 
@@ -48,6 +50,9 @@ returns c =
     let r = c .before .before .before in
     run-stop (r .before .before .loop .inv) (r .before .loop-test .taken) _ (r .read-request .ensures) (c .before .match .keys2) _ (c .ended .ensures)
 
+refused-requires : tie.Need-refused-requires Inv-loop μ-loop
+refused-requires c κs = search needs
+
 cast-i : tie.Need-cast-i Inv-loop μ-loop
 cast-i c = search needs
 
@@ -55,9 +60,9 @@ cast-k : tie.Need-cast-k Inv-loop μ-loop
 cast-k c = search needs
 
 -- a command that exists is one of 32
-near : (c : tie.Then1 Inv-loop μ-loop) → c .before .before .before .before .before .before .before .read-request .result .request .command < 32
+near : (c : tie.Then1 Inv-loop μ-loop) → c .before .before .before .before .before .before .before .before .read-request .result .request .command < 32
 near c =
-    let s = c .before .before .before .before .before .before .before .before .before .before .before .before .before .before in
+    let s = c .before .before .before .before .before .before .before .before .before .before .before .before .before .before .before in
     omega (arith, c .if1 .taken, few-commands (s .args .t1) (s .pre .0))
 
 mul-c : tie.Need-mul-c Inv-loop μ-loop
@@ -68,9 +73,9 @@ element-copy-out-c c = near (c .before .before .before)
 
 array-share-prefix-ids : tie.Need-array-share-prefix-ids Inv-loop μ-loop
 array-share-prefix-ids c =
-    let w = c .before .before .before .before .before .before .before .before .before in
+    let w = c .before .before .before .before .before .before .before .before .before .before in
     let r = w .before .before .before in
-    taken _ _ (r .before .loop-test .taken) _ (r .read-request .ensures) _ (w .answer .given .1) .held
+    taken _ _ _ (r .read-request .ensures) _ (w .answer .given .1) .held
 
 slice-aggregate-carry-out : tie.Need-slice-aggregate-carry-out Inv-loop μ-loop
 slice-aggregate-carry-out c = sym (length-take-le _ _ (array-share-prefix-ids (c .before)))
@@ -78,59 +83,52 @@ slice-aggregate-carry-out c = sym (length-take-le _ _ (array-share-prefix-ids (c
 carry-out-requires : tie.Need-carry-out-requires Inv-loop μ-loop
 carry-out-requires c κs =
     let i = c .before .before .before .before .before .before in
-    let l = i .before .before .before .before .before .before .before .before .before in
+    let l = i .before .before .before .before .before .before .before .before .before .before in
     let s = l .before .before .before .before .before in
-    command-ready (s .args .t1) (s .pre .0) _ _ (i .if1 .taken) _ (l .loop .inv .held)
-
-number-of-requires : tie.Need-number-of-requires Inv-loop μ-loop
-number-of-requires c κs = search needs
+    counted _ _ (command-ready (s .args .t1) (s .pre .0) _ (l .loop .inv .held) _ (i .if1 .taken) _)
 
 -- a request whose command exists is carried out, another is answered 10
 turned : (c : tie.Joined1 Inv-loop μ-loop) →
-    let r = c .before .before .before .before .before .before .before in
+    let r = c .before .before .before .before .before .before .before .before in
     let l = r .before .before in
-    Turned (l .before .before .before .before .before .args .t1) (record { things = l .loop .things; cells = l .loop .cells })
-    (r .read-request .result .request) (c .if1 .number) (record { things = c .if1 .things; cells = c .if1 .cells })
+    Turned (l .before .before .before .before .before .args .t1) (matrixOf (l .loop .things) (l .loop .cells)) (r .read-request .result .request) (c .if1 .verdict)
+    (matrixOf (c .if1 .things) (c .if1 .cells))
 turned c =
-    let r = c .before .before .before .before .before .before .before in
-    let s = r .before .before .before .before .before .before .before in
+    let r = c .before .before .before .before .before .before .before .before in
+    let l = r .before .before in
+    let s = l .before .before .before .before .before in
     ⊎-elim
-    (λ w.
-    let number : c .if1 .number ≡ w .11 .result = search needs in
-    rw (w .12, w .13, number) (turned-some (s .args .t1) _ (r .read-request .result .request) (s .pre .0) (w .0 .taken) _ _ _ (w .7 .ensures) _ (w .11 .ensures)))
-    (λ w.
-    let number : c .if1 .number ≡ 10 = search needs in
-    rw (w .1, w .2, number) (turned-none (s .args .t1) _ (r .read-request .result .request) (w .0 .left)))
+    (λ w. rw (w .11, w .12, w .13)
+    (turned-some (s .args .t1) _ (r .read-request .result .request) (s .pre .0) (l .loop .inv .held) (w .0 .taken) _ _ _ (w .7 .ensures)))
+    (λ w. rw (w .1, w .2, w .3) (turned-none (s .args .t1) _ (r .read-request .result .request) (w .0 .left) _ (c .before .before .before .refused .ensures)))
     (c .if1 .came)
 
-slice-write-out : tie.Need-slice-write-out Inv-loop μ-loop
-slice-write-out c = c .if2 .taken
+reply-requires : tie.Need-reply-requires Inv-loop μ-loop
+reply-requires c κs = search needs
 
-stored : (c : tie.Joined2 Inv-loop μ-loop) → let l = c .before .before .before .before .before .before .before .before .before .before in
-    c .if2 .out ≡ set (l .loop .out) (l .loop .n) (c .before .if1 .number)
-stored c = ⊎-elim (λ w. w .1) (λ w. w .1 ∙ sym (set-out _ _ _ (w .0 .left))) (c .if2 .came)
+put-reply-requires : tie.Need-put-reply-requires Inv-loop μ-loop
+put-reply-requires c κs = search needs
 
 add-n : tie.Need-add-n Inv-loop μ-loop
 add-n c =
-    let t = c .before .before .before .before .before .before .before .before .before in
+    let t = c .before .before .before .before .before .before .before .before .before .before .before .before .before .before in
     let s = t .before .before .before .before .before .before in
     omega (arith, t .before .loop .inv .counting .few, t .loop-test .taken, s .good .1 .1 .1 .0)
 
+loop-less : tie.Need-loop-less Inv-loop μ-loop
+loop-less c =
+    let w = c .before .before .before .before .before .before .before .before .before .before in
+    let t = taken _ _ _ (w .before .before .before .read-request .ensures) _ (w .answer .given .1) in
+    omega (arith, t .on, t .inside)
+
 loop-again : tie.Need-loop-again Inv-loop μ-loop
 loop-again c =
-    let w = c .before .before .before .before .before in
+    let w = c .before .before .before .before .before .before .before .before .before .before in
     let r = w .before .before .before in
     let l = r .before .before in
     let s = l .before .before .before .before .before in
-    rw (stored c)
-    (running-on (l .loop .inv) (s .pre .0) (r .before .loop-test .taken) _ (r .read-request .ensures) _ (w .answer .given .1) _ _ (turned (c .before)))
-
-loop-less : tie.Need-loop-less Inv-loop μ-loop
-loop-less c =
-    let w = c .before .before .before .before .before in
-    let r = w .before .before .before in
-    let t = taken _ _ (r .before .loop-test .taken) _ (r .read-request .ensures) _ (w .answer .given .1) in
-    omega (arith, t .on, t .inside)
+    running-on (l .loop .inv) (s .pre .0) (r .before .loop-test .taken) _ (r .read-request .ensures) _ (w .answer .given .1) _ _ (turned (c .before .before .before .before .before))
+    _ (c .before .before .before .reply .ensures) _ (c .before .before .put-reply .ensures)
 
 same-length-3 : tie.Need-same-length-3 Inv-loop μ-loop
 same-length-3 c = cells-room (c .before)
@@ -154,6 +152,7 @@ run-all-spec =
     same-length
     same-length-2
     returns
+    refused-requires
     cast-i
     cast-k
     mul-c
@@ -161,8 +160,8 @@ run-all-spec =
     array-share-prefix-ids
     slice-aggregate-carry-out
     carry-out-requires
-    number-of-requires
-    slice-write-out
+    reply-requires
+    put-reply-requires
     add-n
     loop-less
     loop-again

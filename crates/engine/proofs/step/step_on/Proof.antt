@@ -1,7 +1,8 @@
 -- A command number below the count names a command that is accepted, as its scheme is; one at or above it is answered 10.
 -- Assumes nothing.
-use borrow.Author.Needs.{needs}
+use Rattle.engine.proofs.PlanIsStep.{counted}
 use Rattle.engine.proofs.StepLaws.{no-command, few-commands, command-ready, command-step}
+use borrow.Author.Needs.{needs}
 use Rattle.engine.proofs.step.step_on.Statement.{statement}
 use Rattle.engine.proofs.step.step_on.Tie as tie
 
@@ -25,7 +26,7 @@ element-copy-out-c c =
 carry-out-requires : tie.Need-carry-out-requires
 carry-out-requires c κs =
     let s = c .before .before .before .before .before .before .before in
-    command-ready (s .args .t1) (s .pre .0) _ (s .args .command) (search needs) _ (s .pre .1)
+    counted _ _ (command-ready (s .args .t1) (s .pre .0) _ (s .pre .1) (s .args .command) (search needs) _)
 
 same-length : tie.Need-same-length
 same-length c = search needs
@@ -33,7 +34,7 @@ same-length c = search needs
 returns-2 : tie.Need-returns-2
 returns-2 c =
     let s = c .before .before .before .before .before .before .before .before .before .before in
-    command-step (s .args .t1) (s .pre .0) _ (s .args .command) (search needs) _ _ _ (c .before .before .carry-out .ensures)
+    command-step (s .args .t1) (s .pre .0) _ (s .pre .1) (s .args .command) (search needs) _ _ _ (c .before .before .carry-out .ensures)
 
 pub step-on-spec : {M : Type 1} → statement M
 step-on-spec =

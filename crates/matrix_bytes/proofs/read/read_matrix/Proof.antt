@@ -1,10 +1,10 @@
 -- `matrix_bytes::read::read_matrix` meets its contract: of an accepted scheme the head is enough.
 -- Assumes nothing.
 use mathlib.Core.Path.{sym, _∙_}
-use borrow.Author.Tests.{not-true, not-false}
 use borrow.Author.Needs.{needs}
-use Rattle.model.proofs.Bools.{from-true}
-use Rattle.matrix_bytes.proofs.ReadLaws.{matrix-scheme, by-head}
+use borrow.Author.Tests.{not-true, not-false}
+use Rattle.laws.proofs.Bools.{from-true}
+use Rattle.matrix_bytes.proofs.ReadMatrix.{matrix-scheme, by-head}
 use Rattle.matrix_bytes.proofs.read.read_matrix.Statement.{statement}
 use Rattle.matrix_bytes.proofs.read.read_matrix.Tie as tie
 

@@ -1,59 +1,64 @@
--- `matrix_bytes::read::read_things` meets its contract: after j turns j things are read, and stand at the arrays' starts.
+-- `matrix_bytes::read::read_things` meets its contract: after j turns j things are read, and sit at the first seats.
 -- Assumes nothing.
 use Prim.Native.Nat.{_≤_, _-_}
 use native.Mathlib.Omega.{arith}
-use mathlib.Core.List.{_++_, map}
-use mathlib.Core.Path.{_≡_, refl, sym, _∙_}
-use lib.ListN.{replicate}
+use mathlib.Core.Path.{_≡_, _∙_}
 use borrow.Author.Needs.{needs}
-use Rattle.model.specs.Seats.{noType}
 use Rattle.records.specs.Front.{inRecord}
-use Rattle.records.proofs.Loop.{Looped, looped-none, looped-on, looped-stop, looped-all, fill-next}
-use Rattle.matrix_bytes.specs.Read.{thing}
-use Rattle.matrix_bytes.proofs.ReadLaws.{thing-read, thing-stopped, things-filled}
+use Rattle.records.proofs.Loop.{Looped, looped-none, looped-on, looped-stop, looped-all}
+use Rattle.matrix_records.specs.Read.{thing}
+use Rattle.matrix_records.proofs.ReadBack.{thing-read, thing-stopped}
+use Rattle.matrix_bytes.specs.Content.{thingsFrom}
+use Rattle.matrix_bytes.proofs.ReadThings.{things-none, things-on}
 use Rattle.matrix_bytes.proofs.read.read_things.Statement.{statement}
 use Rattle.matrix_bytes.proofs.read.read_things.Tie as tie
 
 abbrev Inv-loop : tie.InvT-loop
-Inv-loop s at h count n ids₀ types₀ last₀ p₀ j₀ ids types last p j =
+Inv-loop s at h count n th₀ last₀ p₀ j₀ th last p j =
     (j ≤ count) ×
     (v : Looped (λ last. inRecord s 16 (λ kind. thing h last)) (λ last t. t .id) count 0 at j last p) ×
-    (ids ≡ map (λ t. t .id) (v .items) ++ replicate (48 - j) 0) ×
-    (types ≡ map (λ t. t .type) (v .items) ++ replicate (48 - j) noType)
+    (th ≡ thingsFrom (v .items))
 
 abbrev μ-loop : tie.MeasureT-loop
-μ-loop s at h count n ids₀ types₀ last₀ p₀ j₀ ids types last p j = count - j
-
-loop-holds : tie.Need-loop-holds Inv-loop μ-loop
-loop-holds c = (omega arith, looped-none, refl, refl)
-
-read-thing-requires : tie.Need-read-thing-requires Inv-loop μ-loop
-read-thing-requires c κs = search needs
-
-enum-known-id : tie.Need-enum-known-id Inv-loop μ-loop
-enum-known-id c = search needs
-
-mul-ids : tie.Need-mul-ids Inv-loop μ-loop
-mul-ids c = search needs
-
-array-write-ids : tie.Need-array-write-ids Inv-loop μ-loop
-array-write-ids c = search needs
-
-array-set-from-types : tie.Need-array-set-from-types Inv-loop μ-loop
-array-set-from-types c = search needs
-
-enum-known-number : tie.Need-enum-known-number Inv-loop μ-loop
-enum-known-number c = search needs
+μ-loop s at h count n th₀ last₀ p₀ j₀ th last p j = count - j
 
 no-things-requires : tie.Need-no-things-requires Inv-loop μ-loop
 no-things-requires c κs = search needs
 
+loop-holds : tie.Need-loop-holds Inv-loop μ-loop
+loop-holds c = (omega arith, looped-none, things-none _ (c .no-things .ensures))
+
+read-thing-requires : tie.Need-read-thing-requires Inv-loop μ-loop
+read-thing-requires c κs = search needs
+
+enum-known-found : tie.Need-enum-known-found Inv-loop μ-loop
+enum-known-found c = search needs
+
+enum-told : tie.Need-enum-told Inv-loop μ-loop
+enum-told c = search needs
+
+number-requires : tie.Need-number-requires Inv-loop μ-loop
+number-requires c κs = search needs
+
+at-requires : tie.Need-at-requires Inv-loop μ-loop
+at-requires c κs = search needs
+
+no-things-requires-2 : tie.Need-no-things-requires-2 Inv-loop μ-loop
+no-things-requires-2 c κs = search needs
+
+refused-requires : tie.Need-refused-requires Inv-loop μ-loop
+refused-requires c κs = search needs
+
 returns : tie.Need-returns Inv-loop μ-loop
 returns c =
-    let p = c .before .before in
-    let r = p .before .before in
-    let e = thing-stopped _ _ _ (sym (r .read-thing .ensures) ∙ p .number .given .1) in
-    rw (c .no-things .ensures, looped-stop (r .before .before .loop .inv .1) (r .before .loop-test .taken) e)
+    let a = c .before .before in
+    let t = a .before .before in
+    let r = t .before .before in
+    let e = thing-stopped _ _ _ (r .read-thing .ensures) _ _ _ _ (t .enum-told .given .1) (a .before .number .ensures) (a .at .ensures) in
+    c .refused .ensures ∙ rw (c .before .no-things2 .ensures, looped-stop (r .before .before .loop .inv .1) (r .before .loop-test .taken) e)
+
+put-thing-requires : tie.Need-put-thing-requires Inv-loop μ-loop
+put-thing-requires c κs = search needs
 
 add-j : tie.Need-add-j Inv-loop μ-loop
 add-j c = search needs
@@ -63,22 +68,14 @@ loop-less c = search needs
 
 loop-again : tie.Need-loop-again Inv-loop μ-loop
 loop-again c =
-    let p = c .before in
-    let r = p .before .before in
-    let l = r .before .before .loop in
-    let (m, v, ei, et) = l .inv in
-    let e = thing-read _ _ _ _ (sym (r .read-thing .ensures) ∙ p .id .given .1) in (
-      omega arith,
-      looped-on v (r .before .loop-test .taken) e,
-      fill-next (λ t. t .id) 0 48 (v .items) _ (l .j) ei (v .count) (omega arith),
-      fill-next (λ t. t .type) noType 48 (v .items) _ (l .j) et (v .count) (omega arith),
-    )
+    let f = c .before .before in
+    let r = f .before .before in
+    let (m, v, et) = r .before .before .loop .inv in
+    let e = thing-read _ _ _ (r .read-thing .ensures) _ _ _ _ (f .found .given .1) in
+    (omega arith, looped-on v (r .before .loop-test .taken) e, things-on (v .items) _ (v .count) _ et _ _ _ (c .put-thing .ensures))
 
 returns-2 : tie.Need-returns-2 Inv-loop μ-loop
-returns-2 c =
-    let l = c .before .loop in
-    let (m, v, ei, et) = l .inv in
-    rw (looped-all v (c .loop-test .left), things-filled (v .items) (l .j) (l .ids) (l .types) (v .count) ei et)
+returns-2 c = let (m, v, et) = c .before .loop .inv in rw (et, looped-all v (c .loop-test .left))
 
 pub read-things-spec : {M : Type 1} → statement M
 read-things-spec =
@@ -86,15 +83,17 @@ read-things-spec =
     (tie.spec
     Inv-loop
     μ-loop
+    no-things-requires
     loop-holds
     read-thing-requires
-    enum-known-id
-    mul-ids
-    array-write-ids
-    array-set-from-types
-    enum-known-number
-    no-things-requires
+    enum-known-found
+    enum-told
+    number-requires
+    at-requires
+    no-things-requires-2
+    refused-requires
     returns
+    put-thing-requires
     add-j
     loop-less
     loop-again

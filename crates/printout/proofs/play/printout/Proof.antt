@@ -21,6 +21,29 @@ read-scheme-requires c κs = search needs
 enum-told : tie.Need-enum-told
 enum-told c = search needs
 
+enum-told-2 : tie.Need-enum-told-2
+enum-told-2 c = search needs
+
+at-requires : tie.Need-at-requires
+at-requires c κs = search needs
+
+number-requires : tie.Need-number-requires
+number-requires c κs = search needs
+
+put-bad-requires : tie.Need-put-bad-requires
+put-bad-requires c κs = search needs
+
+same-length : tie.Need-same-length
+same-length c = search needs
+
+returns : tie.Need-returns
+returns c =
+    let n = c .before .before .before in
+    let t = n .before .before .before in
+    let r = t .before .before .before in
+    scheme-bad _ _ _ _ (r .before .before .input .ensures) _ (r .before .no-scheme .ensures) _ (r .read-scheme .ensures) _ _ (t .enum-told2 .given .1) _ _
+    (n .before .at .ensures, n .number .ensures) _ (c .before .before .put-bad .ensures)
+
 input-requires-2 : tie.Need-input-requires-2
 input-requires-2 c κs = search needs
 
@@ -33,32 +56,16 @@ put-matrix-requires c κs =
     let s = c .before .before .before .before .before .before .before .before .before .before .before .before .before in
     omega (arith, length-take 65536 (s .args .requests .now), ap length (c .before .input3 .ensures))
 
-enum-known-answer : tie.Need-enum-known-answer
-enum-known-answer c = search needs
-
-put-bad-requires : tie.Need-put-bad-requires
-put-bad-requires c κs = search needs
-
-same-length : tie.Need-same-length
-same-length c = search needs
-
-returns : tie.Need-returns
-returns c =
-    let r = c .before .before .before .before .before .before .before .before .before in
-    let i = r .before .before in
-    let q = c .before .before .before .before in
-    scheme-good _ _ _ _ (i .input .ensures) _ (r .before .no-scheme .ensures) _ (r .read-scheme .ensures) _ (q .before .before .enum-told .given .1) _ _
-    (q .before .input2 .ensures) (q .input3 .ensures) (c .before .before .put-matrix .ensures)
-
 same-length-2 : tie.Need-same-length-2
 same-length-2 c = search needs
 
 returns-2 : tie.Need-returns-2
 returns-2 c =
-    let r = c .before .before .before .before .before .before .before .before in
-    let i = r .before .before in
-    scheme-bad _ _ _ _ (i .input .ensures) _ (r .before .no-scheme .ensures) _ (r .read-scheme .ensures) _ _
-    (c .before .before .before .before .before .answer .given .1) (c .before .before .put-bad .ensures)
+    let q = c .before .before .before .before in
+    let t = q .before .before in
+    let r = t .before .before .before in
+    scheme-good _ _ _ _ (r .before .before .input .ensures) _ (r .before .no-scheme .ensures) _ (r .read-scheme .ensures) _ (t .enum-told .given .1) _ _
+    (q .before .input2 .ensures) (q .input3 .ensures) _ (c .before .before .put-matrix .ensures)
 
 pub printout-spec : {M : Type 1} → statement M
 printout-spec =
@@ -68,12 +75,14 @@ printout-spec =
     no-scheme-requires
     read-scheme-requires
     enum-told
-    input-requires-2
-    input-requires-3
-    put-matrix-requires
-    enum-known-answer
+    enum-told-2
+    at-requires
+    number-requires
     put-bad-requires
     same-length
     returns
+    input-requires-2
+    input-requires-3
+    put-matrix-requires
     same-length-2
     returns-2)

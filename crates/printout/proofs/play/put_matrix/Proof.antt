@@ -1,9 +1,10 @@
 -- `play::put_matrix` meets its contract: what was read is accepted, and is run; else the refusal's line.
 -- Assumes nothing.
-use mathlib.Core.Path.{sym}
+use mathlib.Core.Path.{ap, _∙_}
 use borrow.Author.Needs.{needs}
-use Rattle.printout.proofs.PutLaws.{put-same}
-use Rattle.printout.proofs.PlayLaws.{accepted, matrix-text}
+use Rattle.lines.specs.Put.{putText}
+use Rattle.printout.proofs.ReadLaws.{accepted}
+use Rattle.printout.proofs.PlayLaws.{matrix-good, matrix-bad}
 use Rattle.printout.proofs.play.put_matrix.Statement.{statement}
 use Rattle.printout.proofs.play.put_matrix.Tie as tie
 
@@ -19,6 +20,31 @@ read-matrix-requires c κs = search needs
 enum-told : tie.Need-enum-told
 enum-told c = search needs
 
+enum-told-2 : tie.Need-enum-told-2
+enum-told-2 c = search needs
+
+at-requires : tie.Need-at-requires
+at-requires c κs = search needs
+
+number-requires : tie.Need-number-requires
+number-requires c κs = search needs
+
+put-bad-requires : tie.Need-put-bad-requires
+put-bad-requires c κs = search needs
+
+same-length : tie.Need-same-length
+same-length c = search needs
+
+returns : tie.Need-returns
+returns c =
+    let n = c .before .before .before in
+    let t = n .before .before .before in
+    let m = t .before .before .before .before in
+    c .before .before .put-bad .ensures
+    ∙ ap (putText _ _)
+    (matrix-bad _ _ _ (m .before .before .no-things .ensures) _ _ (m .read-matrix .ensures) _ _ _ (t .enum-told2 .given .1) _ _
+    (n .before .at .ensures, n .number .ensures))
+
 slice-aggregate-put-run : tie.Need-slice-aggregate-put-run
 slice-aggregate-put-run c = search needs
 
@@ -32,31 +58,15 @@ put-run-requires c κs =
     _ (c .before .before .enum-told .given .1) in
     (ok, of, k .before .pre)
 
-enum-known-answer : tie.Need-enum-known-answer
-enum-known-answer c = search needs
-
-put-bad-requires : tie.Need-put-bad-requires
-put-bad-requires c κs = search needs
-
-same-length : tie.Need-same-length
-same-length c = search needs
-
-returns : tie.Need-returns
-returns c =
-    let t = c .before .before .before .before .before .before in
-    let m = t .before .before .before .before in
-    put-same (c .before .before .before .put-run .ensures)
-    (sym (matrix-text _ _ _ (m .before .before .no-things .ensures) _ _ (m .read-matrix .ensures) _ (t .enum-told .given .1) _))
-
 same-length-2 : tie.Need-same-length-2
 same-length-2 c = search needs
 
 returns-2 : tie.Need-returns-2
 returns-2 c =
-    let t = c .before .before .before .before .before in
+    let t = c .before .before .before .before .before .before in
     let m = t .before .before .before .before in
-    put-same (c .before .before .put-bad .ensures)
-    (sym (matrix-text _ _ _ (m .before .before .no-things .ensures) _ _ (m .read-matrix .ensures) _ (t .answer .given .1) _))
+    let e = m .read-matrix .ensures in
+    c .before .before .before .put-run .ensures ∙ ap (putText _ _) (matrix-good _ _ _ (m .before .before .no-things .ensures) _ _ e _ _ (t .enum-told .given .1))
 
 pub put-matrix-spec : {M : Type 1} → statement M
 put-matrix-spec =
@@ -66,11 +76,13 @@ put-matrix-spec =
     slice-aggregate-read-matrix
     read-matrix-requires
     enum-told
-    slice-aggregate-put-run
-    put-run-requires
-    enum-known-answer
+    enum-told-2
+    at-requires
+    number-requires
     put-bad-requires
     same-length
     returns
+    slice-aggregate-put-run
+    put-run-requires
     same-length-2
     returns-2)

@@ -2,8 +2,6 @@
 -- Assumes nothing.
 use native.Mathlib.Omega.{arith}
 use borrow.Author.Needs.{needs}
-use Rattle.printout.specs.Text.{heading}
-use Rattle.printout.proofs.RequestLaws.{listed-near}
 use Rattle.printout.proofs.PlayLaws.{printed}
 use Rattle.printout.proofs.play.put_run.Statement.{statement}
 use Rattle.printout.proofs.play.put_run.Tie as tie
@@ -21,22 +19,13 @@ slice-aggregate-put-requests : tie.Need-slice-aggregate-put-requests
 slice-aggregate-put-requests c = search needs
 
 put-requests-requires : tie.Need-put-requests-requires
-unfolding heading
-put-requests-requires c κs =
-    let s = c .before .before .before .before .before .before .before .before .before .before .before .before .before .before .before .before in
-    let long = slice-aggregate-put-requests c in
-    (omega (arith, c .before .before .before .before .put-heading .ensures .position), s .pre .2, omega (arith, long, s .pre .2))
+put-requests-requires c κs = search needs
 
 totals-requires : tie.Need-totals-requires
 totals-requires c κs = search needs
 
 put-end-requires : tie.Need-put-end-requires
-unfolding heading
-put-end-requires c κs =
-    let r = c .before .before .before .before .before in
-    let h = r .before .before .before .before .before in
-    let s = h .before .before .before .before .before .before .before .before .before .before .before .before in
-    omega (arith, listed-near _ _ (s .pre .2) (r .put-requests .ensures), h .put-heading .ensures .position)
+put-end-requires c κs = search needs
 
 same-length : tie.Need-same-length
 same-length c = search needs
@@ -46,12 +35,12 @@ same-length-2 c = search needs
 
 returns : tie.Need-returns
 returns c =
-    let h = c .before .before .before .before .before .before .before .before .before .before .before .before .before in
+    let l = c .before .before .before .before .before .before .before .before in
+    let h = l .before .before .before .before .before in
     let r = h .before .before .before .before .before .before in
     let s = r .before .before .before .before .before .before in
-    let l = c .before .before .before .before .before .before .before .before in
-    printed (s .args .s) _ (s .pre .0) (s .pre .1) _ _ (omega (arith, slice-aggregate-run-list (r .before), s .pre .2)) _ _ _ (r .run-list .ensures)
-    (h .put-heading .ensures) (l .put-requests .ensures) _ (c .before .before .before .totals .ensures) (c .before .before .put-end .ensures)
+    printed (s .args .s) _ (s .pre .0) (s .pre .1) _ _ (omega (arith, slice-aggregate-run-list (r .before), s .pre)) _ _ _ (r .run-list .ensures) _
+    (omega (arith, s .good .1 .1 .1 .1 .0)) (h .put-heading .ensures) (l .put-requests .ensures) _ (c .before .before .before .totals .ensures) (c .before .before .put-end .ensures)
 
 pub put-run-spec : {M : Type 1} → statement M
 put-run-spec =

@@ -18,14 +18,17 @@ read-matrix-by-head-requires c κs = search needs
 enum-known-answer : tie.Need-enum-known-answer
 enum-known-answer c = search needs
 
+enum-told : tie.Need-enum-told
+enum-told c = search needs
+
+number-requires : tie.Need-number-requires
+number-requires c κs = search needs
+
+at-requires : tie.Need-at-requires
+at-requires c κs = search needs
+
 tell-requires : tie.Need-tell-requires
 tell-requires c κs = search needs
-
-enum-known-answer-2 : tie.Need-enum-known-answer-2
-enum-known-answer-2 c = search needs
-
-tell-requires-2 : tie.Need-tell-requires-2
-tell-requires-2 c κs = search needs
 
 same-length : tie.Need-same-length
 same-length c = search needs
@@ -34,9 +37,14 @@ returns : tie.Need-returns
 unfolding checkAgainst
 returns c = λ s ok its.
     let t = c .before .before in
-    let a = t .before .before .before in
-    let r = a .before .before .before in
-    matrix-read (gives _) notRead (λ m k. call 0 0 k 0 0) _ s ok _ its _ (r .before .before .no-things .ensures) _ _ (r .read-matrix-by-head .ensures) _ (a .answer .given .1) (t .tell .ensures)
+    let n = t .before .before in
+    let e = n .before .before in
+    let r = e .before .before .before in
+    matrix-refused (gives _) notRead (λ m k. call 0 0 k 0 0) _ s ok _ its _ (r .before .before .no-things .ensures) _ _ (r .read-matrix-by-head .ensures)
+    _ _ (e .enum-told .given .1) _ _ (n .number .ensures) (t .before .at .ensures) (t .tell .ensures)
+
+tell-requires-2 : tie.Need-tell-requires-2
+tell-requires-2 c κs = search needs
 
 same-length-2 : tie.Need-same-length-2
 same-length-2 c = search needs
@@ -47,7 +55,8 @@ returns-2 c = λ s ok its.
     let t = c .before .before in
     let a = t .before .before .before in
     let r = a .before .before .before in
-    matrix-refused (gives _) notRead (λ m k. call 0 0 k 0 0) _ s ok _ its _ (r .before .before .no-things .ensures) _ _ (r .read-matrix-by-head .ensures) _ _ (a .answer2 .given .1) (t .tell2 .ensures)
+    matrix-read (gives _) notRead (λ m k. call 0 0 k 0 0) _ s ok _ its _ (r .before .before .no-things .ensures) _ _ (r .read-matrix-by-head .ensures)
+    _ (a .answer .given .1) (t .tell2 .ensures)
 
 pub check-of-spec : {M : Type 1} → statement M
 check-of-spec =
@@ -57,10 +66,12 @@ check-of-spec =
     slice-aggregate-read-matrix-by-head
     read-matrix-by-head-requires
     enum-known-answer
+    enum-told
+    number-requires
+    at-requires
     tell-requires
-    enum-known-answer-2
-    tell-requires-2
     same-length
     returns
+    tell-requires-2
     same-length-2
     returns-2)

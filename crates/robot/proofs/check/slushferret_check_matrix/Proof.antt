@@ -13,11 +13,14 @@ scheme-of-requires c κs = search needs
 enum-told : tie.Need-enum-told
 enum-told c = search needs
 
-check-of-requires : tie.Need-check-of-requires
-check-of-requires c κs = search needs
+enum-told-2 : tie.Need-enum-told-2
+enum-told-2 c = search needs
 
-enum-known-answer : tie.Need-enum-known-answer
-enum-known-answer c = search needs
+number-requires : tie.Need-number-requires
+number-requires c κs = search needs
+
+at-requires : tie.Need-at-requires
+at-requires c κs = search needs
 
 tell-requires : tie.Need-tell-requires
 tell-requires c κs = search needs
@@ -29,10 +32,14 @@ returns : tie.Need-returns
 unfolding checkMatrix
 returns c =
     let t = c .before .before in
-    let a = t .before .before in
-    let r = a .before .before .before .before in
-    scheme-read (gives _) notRead (λ s n. checkAgainst _ s) _ _ (r .scheme-of .ensures) _ (a .enum-told .given .1)
-    (t .check-of .ensures _ (scheme-accepted _ (λ i. r .before .before .before .shared-slice-known .given i .fits) _ (r .scheme-of .ensures) _ (a .enum-told .given .1)) refl)
+    let n = t .before .before in
+    let e = n .before .before in
+    let r = e .before .before in
+    scheme-refused (gives _) notRead (λ s n. checkAgainst _ s) _ _ (r .scheme-of .ensures) _ _ (e .enum-told2 .given .1)
+    _ _ (n .number .ensures) (t .before .at .ensures) (t .tell .ensures)
+
+check-of-requires : tie.Need-check-of-requires
+check-of-requires c κs = search needs
 
 same-length-2 : tie.Need-same-length-2
 same-length-2 c = search needs
@@ -41,9 +48,11 @@ returns-2 : tie.Need-returns-2
 unfolding checkMatrix
 returns-2 c =
     let t = c .before .before in
-    let a = t .before .before .before in
-    let r = a .before .before .before .before in
-    scheme-refused (gives _) notRead (λ s n. checkAgainst _ s) _ _ (r .scheme-of .ensures) _ _ (a .answer .given .1) (t .tell .ensures)
+    let e = t .before .before .before .before in
+    let r = e .before .before in
+    let read = r .scheme-of .ensures in
+    scheme-read (gives _) notRead (λ s n. checkAgainst _ s) _ _ read _ (e .enum-told .given .1)
+    (t .check-of .ensures _ (scheme-accepted _ (λ i. r .before .before .before .shared-slice-known .given i .fits) _ read _ (e .enum-told .given .1)) refl)
 
 pub slushferret-check-matrix-spec : {M : Type 1} → statement M
 slushferret-check-matrix-spec =
@@ -51,10 +60,12 @@ slushferret-check-matrix-spec =
     (tie.spec
     scheme-of-requires
     enum-told
-    check-of-requires
-    enum-known-answer
+    enum-told-2
+    number-requires
+    at-requires
     tell-requires
     same-length
     returns
+    check-of-requires
     same-length-2
     returns-2)

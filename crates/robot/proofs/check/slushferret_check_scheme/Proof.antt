@@ -12,14 +12,17 @@ scheme-of-requires c κs = search needs
 enum-known-answer : tie.Need-enum-known-answer
 enum-known-answer c = search needs
 
+enum-told : tie.Need-enum-told
+enum-told c = search needs
+
+number-requires : tie.Need-number-requires
+number-requires c κs = search needs
+
+at-requires : tie.Need-at-requires
+at-requires c κs = search needs
+
 tell-requires : tie.Need-tell-requires
 tell-requires c κs = search needs
-
-enum-known-answer-2 : tie.Need-enum-known-answer-2
-enum-known-answer-2 c = search needs
-
-tell-requires-2 : tie.Need-tell-requires-2
-tell-requires-2 c κs = search needs
 
 same-length : tie.Need-same-length
 same-length c = search needs
@@ -28,9 +31,14 @@ returns : tie.Need-returns
 unfolding checkScheme
 returns c =
     let t = c .before .before in
-    let a = t .before .before .before in
-    let r = a .before .before in
-    scheme-read (gives _) notRead (λ s n. call 0 0 n 0 0) _ _ (r .scheme-of .ensures) _ (a .answer .given .1) (t .tell .ensures)
+    let n = t .before .before in
+    let e = n .before .before in
+    let r = e .before .before in
+    scheme-refused (gives _) notRead (λ s n. call 0 0 n 0 0) _ _ (r .scheme-of .ensures) _ _ (e .enum-told .given .1)
+    _ _ (n .number .ensures) (t .before .at .ensures) (t .tell .ensures)
+
+tell-requires-2 : tie.Need-tell-requires-2
+tell-requires-2 c κs = search needs
 
 same-length-2 : tie.Need-same-length-2
 same-length-2 c = search needs
@@ -40,8 +48,7 @@ unfolding checkScheme
 returns-2 c =
     let t = c .before .before in
     let a = t .before .before .before in
-    let r = a .before .before in
-    scheme-refused (gives _) notRead (λ s n. call 0 0 n 0 0) _ _ (r .scheme-of .ensures) _ _ (a .answer2 .given .1) (t .tell2 .ensures)
+    scheme-read (gives _) notRead (λ s n. call 0 0 n 0 0) _ _ (a .before .before .scheme-of .ensures) _ (a .answer .given .1) (t .tell2 .ensures)
 
 pub slushferret-check-scheme-spec : {M : Type 1} → statement M
 slushferret-check-scheme-spec =
@@ -49,10 +56,12 @@ slushferret-check-scheme-spec =
     (tie.spec
     scheme-of-requires
     enum-known-answer
+    enum-told
+    number-requires
+    at-requires
     tell-requires
-    enum-known-answer-2
-    tell-requires-2
     same-length
     returns
+    tell-requires-2
     same-length-2
     returns-2)

@@ -13,14 +13,14 @@ scheme-of-requires c κs = search needs
 enum-told : tie.Need-enum-told
 enum-told c = search needs
 
-convert-scheme-requires : tie.Need-convert-scheme-requires
-convert-scheme-requires c κs = search needs
+enum-told-2 : tie.Need-enum-told-2
+enum-told-2 c = search needs
 
-tell-writing-requires : tie.Need-tell-writing-requires
-tell-writing-requires c κs = search needs
+number-requires : tie.Need-number-requires
+number-requires c κs = search needs
 
-enum-known-answer : tie.Need-enum-known-answer
-enum-known-answer c = search needs
+at-requires : tie.Need-at-requires
+at-requires c κs = search needs
 
 tell-requires : tie.Need-tell-requires
 tell-requires c κs = search needs
@@ -28,18 +28,24 @@ tell-requires c κs = search needs
 same-length : tie.Need-same-length
 same-length c = search needs
 
-same-length-2 : tie.Need-same-length-2
-same-length-2 c = search needs
-
 returns : tie.Need-returns
 unfolding convertSchemeBytes
 returns c =
     let t = c .before .before in
-    let w = t .before .before .before .before in
-    let a = w .before .before in
-    let r = a .before .before .before in
-    scheme-read (givesWrote _) (notConverted _) (λ s n. wrote 1 (convertSchemeInto _ s)) _ _ (r .scheme-of .ensures) _ (a .enum-told .given .1)
-    (told-wrote _ _ _ 1 _ _ _ (w .convert-scheme .ensures) (t .tell-writing .ensures))
+    let n = t .before .before in
+    let e = n .before .before in
+    let r = e .before .before in
+    scheme-refused (givesWrote _) (notConverted _) (λ s n. wrote 1 (convertSchemeInto _ s)) _ _ (r .scheme-of .ensures) _ _ (e .enum-told2 .given .1)
+    _ _ (n .number .ensures) (t .before .at .ensures) (not-converted _ _ _ _ _ _ _ (t .tell .ensures))
+
+convert-scheme-requires : tie.Need-convert-scheme-requires
+convert-scheme-requires c κs = search needs
+
+tell-writing-requires : tie.Need-tell-writing-requires
+tell-writing-requires c κs = search needs
+
+same-length-2 : tie.Need-same-length-2
+same-length-2 c = search needs
 
 same-length-3 : tie.Need-same-length-3
 same-length-3 c = search needs
@@ -48,10 +54,10 @@ returns-2 : tie.Need-returns-2
 unfolding convertSchemeBytes
 returns-2 c =
     let t = c .before .before in
-    let a = t .before .before .before in
-    let r = a .before .before .before in
-    scheme-refused (givesWrote _) (notConverted _) (λ s n. wrote 1 (convertSchemeInto _ s)) _ _ (r .scheme-of .ensures) _ _ (a .answer .given .1)
-    (not-converted _ _ _ _ _ _ _ (t .tell .ensures))
+    let w = t .before .before .before .before in
+    let e = w .before .before .before in
+    scheme-read (givesWrote _) (notConverted _) (λ s n. wrote 1 (convertSchemeInto _ s)) _ _ (e .before .before .scheme-of .ensures) _ (e .enum-told .given .1)
+    (told-wrote _ _ _ 1 _ _ _ (w .convert-scheme .ensures) (t .tell-writing .ensures))
 
 pub slushferret-convert-scheme-spec : {M : Type 1} → statement M
 slushferret-convert-scheme-spec =
@@ -59,12 +65,14 @@ slushferret-convert-scheme-spec =
     (tie.spec
     scheme-of-requires
     enum-told
-    convert-scheme-requires
-    tell-writing-requires
-    enum-known-answer
+    enum-told-2
+    number-requires
+    at-requires
     tell-requires
     same-length
-    same-length-2
     returns
+    convert-scheme-requires
+    tell-writing-requires
+    same-length-2
     same-length-3
     returns-2)

@@ -1,7 +1,7 @@
 -- 9 lies in the output.
 -- Assumes nothing.
 use borrow.Author.Tests.{eq-eqb}
-use Rattle.model.proofs.Bools.{eqb-not}
+use Rattle.laws.proofs.Bools.{eqb-not}
 use Rattle.robot.proofs.report.place_of.Statement.{statement}
 use Rattle.robot.proofs.report.place_of.Tie as tie
 

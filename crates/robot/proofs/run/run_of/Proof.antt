@@ -23,8 +23,17 @@ slice-aggregate-read-matrix-by-head c = search needs
 read-matrix-by-head-requires : tie.Need-read-matrix-by-head-requires
 read-matrix-by-head-requires c κs = search needs
 
-enum-known-answer : tie.Need-enum-known-answer
-enum-known-answer c = search needs
+enum-told : tie.Need-enum-told
+enum-told c = search needs
+
+enum-told-2 : tie.Need-enum-told-2
+enum-told-2 c = search needs
+
+number-requires : tie.Need-number-requires
+number-requires c κs = search needs
+
+at-requires : tie.Need-at-requires
+at-requires c κs = search needs
 
 tell-requires : tie.Need-tell-requires
 tell-requires c κs = search needs
@@ -36,13 +45,12 @@ returns : tie.Need-returns
 unfolding runAgainst
 returns c =
     let t = c .before .before in
-    let a = t .before .before .before in
-    let r = a .before .before .before .before in
-    matrix-refused (givesRan _) (notRun _ _) (λ m k. runMatrix _ m _ _ _) _ _ (start r .pre) _ refl _ (r .before .before .no-things .ensures) _ _ (r .read-matrix-by-head .ensures) _ _ (a .answer .given .1)
+    let n = t .before .before in
+    let e = n .before .before in
+    let r = e .before .before .before .before in
+    matrix-refused (givesRan _) (notRun _ _) (λ m k. runMatrix _ m _ _ _) _ _ (start r .pre) _ refl _ (r .before .before .no-things .ensures) _ _
+    (r .read-matrix-by-head .ensures) _ _ (e .enum-told2 .given .1) _ _ (n .number .ensures) (t .before .at .ensures)
     (not-run _ _ _ _ _ _ _ _ (t .tell .ensures))
-
-enum-told : tie.Need-enum-told
-enum-told c = search needs
 
 -- where a matrix was read, it is accepted, and what follows the reading is what is left
 matrix-accepted : (c : tie.After-enum-told) →
@@ -68,9 +76,10 @@ returns-2 c =
     let t = c .before .before in
     let i = t .before .before in
     let n = i .before .before in
-    let a = n .before .before in
-    let r = a .before .before .before .before in
-    matrix-read (givesRan _) (notRun _ _) (λ m k. runMatrix _ m _ _ _) _ _ (start r .pre) _ refl _ (r .before .before .no-things .ensures) _ _ (r .read-matrix-by-head .ensures) _ (a .enum-told .given .1)
+    let e = n .before .before in
+    let r = e .before .before .before .before in
+    matrix-read (givesRan _) (notRun _ _) (λ m k. runMatrix _ m _ _ _) _ _ (start r .pre) _ refl _ (r .before .before .no-things .ensures) _ _
+    (r .read-matrix-by-head .ensures) _ (e .enum-told .given .1)
     (answers-short _ _ _ _ (n .trial-of .ensures) _ _ _ _ _ (i .if2 .taken) (t .tell2 .ensures))
 
 tell-requires-3 : tie.Need-tell-requires-3
@@ -86,9 +95,10 @@ returns-3 c =
     let j = t .before .before in
     let i = j .before .before in
     let n = i .before .before in
-    let a = n .before .before in
-    let r = a .before .before .before .before in
-    matrix-read (givesRan _) (notRun _ _) (λ m k. runMatrix _ m _ _ _) _ _ (start r .pre) _ refl _ (r .before .before .no-things .ensures) _ _ (r .read-matrix-by-head .ensures) _ (a .enum-told .given .1)
+    let e = n .before .before in
+    let r = e .before .before .before .before in
+    matrix-read (givesRan _) (notRun _ _) (λ m k. runMatrix _ m _ _ _) _ _ (start r .pre) _ refl _ (r .before .before .no-things .ensures) _ _
+    (r .read-matrix-by-head .ensures) _ (e .enum-told .given .1)
     (out-short _ _ _ _ (n .trial-of .ensures) _ _ _ _ _ (i .if2 .left) (j .if3 .taken) (t .tell3 .ensures))
 
 slice-aggregate-run-on : tie.Need-slice-aggregate-run-on
@@ -114,9 +124,10 @@ returns-4 : tie.Need-returns-4
 unfolding runAgainst
 returns-4 c =
     let t = c .before .before .before .before .before .before .before in
-    let a = t .before .before .before .before .before .before in
-    let r = a .before .before .before .before in
-    matrix-read (givesRan _) (notRun _ _) (λ m k. runMatrix _ m _ _ _) _ _ (start r .pre) _ refl _ (r .before .before .no-things .ensures) _ _ (r .read-matrix-by-head .ensures) _ (a .enum-told .given .1)
+    let e = t .before .before .before .before .before .before in
+    let r = e .before .before .before .before in
+    matrix-read (givesRan _) (notRun _ _) (λ m k. runMatrix _ m _ _ _) _ _ (start r .pre) _ refl _ (r .before .before .no-things .ensures) _ _
+    (r .read-matrix-by-head .ensures) _ (e .enum-told .given .1)
     (t .run-on .ensures)
 
 pub run-of-spec : {M : Type 1} → statement M
@@ -126,11 +137,13 @@ run-of-spec =
     no-things-requires
     slice-aggregate-read-matrix-by-head
     read-matrix-by-head-requires
-    enum-known-answer
+    enum-told
+    enum-told-2
+    number-requires
+    at-requires
     tell-requires
     same-length
     returns
-    enum-told
     trial-of-requires
     tell-requires-2
     same-length-2

@@ -12,14 +12,14 @@ scheme-of-requires c κs = search needs
 enum-told : tie.Need-enum-told
 enum-told c = search needs
 
-run-of-requires : tie.Need-run-of-requires
-run-of-requires c κs =
-    let a = c .before .before .before in
-    let r = a .before .before .before in
-    scheme-accepted _ (λ i. r .before .before .before .before .before .before .shared-slice-known .given i .fits) _ (r .scheme-of .ensures) _ (a .enum-told .given .1)
+enum-told-2 : tie.Need-enum-told-2
+enum-told-2 c = search needs
 
-enum-known-answer : tie.Need-enum-known-answer
-enum-known-answer c = search needs
+number-requires : tie.Need-number-requires
+number-requires c κs = search needs
+
+at-requires : tie.Need-at-requires
+at-requires c κs = search needs
 
 tell-requires : tie.Need-tell-requires
 tell-requires c κs = search needs
@@ -27,20 +27,27 @@ tell-requires c κs = search needs
 same-length : tie.Need-same-length
 same-length c = search needs
 
+returns : tie.Need-returns
+unfolding runBytes
+returns c =
+    let t = c .before .before in
+    let n = t .before .before in
+    let e = n .before .before in
+    let r = e .before .before in
+    scheme-refused (givesRan _) (notRun _ _) (λ s n. runAgainst _ _ _ _ s) _ _ (r .scheme-of .ensures) _ _ (e .enum-told2 .given .1)
+    _ _ (n .number .ensures) (t .before .at .ensures) (not-run _ _ _ _ _ _ _ _ (t .tell .ensures))
+
+run-of-requires : tie.Need-run-of-requires
+run-of-requires c κs =
+    let e = c .before .before .before .before in
+    let r = e .before .before in
+    scheme-accepted _ (λ i. r .before .before .before .before .before .before .shared-slice-known .given i .fits) _ (r .scheme-of .ensures) _ (e .enum-told .given .1)
+
 same-length-2 : tie.Need-same-length-2
 same-length-2 c = search needs
 
 same-length-3 : tie.Need-same-length-3
 same-length-3 c = search needs
-
-returns : tie.Need-returns
-unfolding runBytes
-returns c =
-    let t = c .before .before .before .before .before .before in
-    let a = t .before .before .before .before in
-    let r = a .before .before .before in
-    scheme-read (givesRan _) (notRun _ _) (λ s n. runAgainst _ _ _ _ s) _ _ (r .scheme-of .ensures) _ (a .enum-told .given .1)
-    (t .run-of .ensures)
 
 same-length-4 : tie.Need-same-length-4
 same-length-4 c = search needs
@@ -48,11 +55,11 @@ same-length-4 c = search needs
 returns-2 : tie.Need-returns-2
 unfolding runBytes
 returns-2 c =
-    let t = c .before .before in
-    let a = t .before .before .before in
-    let r = a .before .before .before in
-    scheme-refused (givesRan _) (notRun _ _) (λ s n. runAgainst _ _ _ _ s) _ _ (r .scheme-of .ensures) _ _ (a .answer .given .1)
-    (not-run _ _ _ _ _ _ _ _ (t .tell .ensures))
+    let t = c .before .before .before .before .before .before in
+    let e = t .before .before .before .before .before in
+    let r = e .before .before in
+    scheme-read (givesRan _) (notRun _ _) (λ s n. runAgainst _ _ _ _ s) _ _ (r .scheme-of .ensures) _ (e .enum-told .given .1)
+    (t .run-of .ensures)
 
 pub slushferret-run-spec : {M : Type 1} → statement M
 slushferret-run-spec =
@@ -60,12 +67,14 @@ slushferret-run-spec =
     (tie.spec
     scheme-of-requires
     enum-told
-    run-of-requires
-    enum-known-answer
+    enum-told-2
+    number-requires
+    at-requires
     tell-requires
     same-length
+    returns
+    run-of-requires
     same-length-2
     same-length-3
-    returns
     same-length-4
     returns-2)

@@ -1,23 +1,23 @@
--- `scheme_bytes::read::read_commands` meets its contract: after j turns j commands are read, and stand at the array's start.
+-- `read::read_commands` meets its contract: after j turns j commands are read, and stand at the array's start.
 -- Assumes nothing.
 use Prim.Native.Nat.{_-_, _≤_}
 use native.Mathlib.Omega.{arith}
 use mathlib.Core.List.{_++_, map, map-id}
 use mathlib.Core.Path.{_≡_, _∙_}
 use lib.ListN.{replicate}
+use borrow.Author.Needs.{needs}
+use Rattle.model.specs.Arrays.{noCommand}
 use Rattle.model.specs.declared.Command.{Command}
 use Rattle.records.proofs.Loop.{Looped, looped-none, looped-on, looped-stop, looped-all, fill-next}
-use Rattle.scheme_bytes.specs.Read.{noCommand}
-use Rattle.scheme_bytes.proofs.CommandLaws.{commandAt}
-use Rattle.scheme_bytes.proofs.ReadLaws.{at-done, at-refused}
-use borrow.Author.Needs.{needs}
+use Rattle.command_bytes.specs.Read.{commandAt}
+use Rattle.scheme_bytes.proofs.ReadLaws.{reading-tells, one-done, one-refused}
 use Rattle.scheme_bytes.proofs.read.read_commands.Statement.{statement}
 use Rattle.scheme_bytes.proofs.read.read_commands.Tie as tie
 
 abbrev Inv-loop : tie.InvT-loop
 Inv-loop s at h n commands₀ p₀ j₀ commands p j =
     (j ≤ h .count) ×
-    (v : Looped (λ (u : Unit {0}). commandAt h s) (λ u x. u) (h .count) tt at j tt p) ×
+    (v : Looped (λ (u : Unit {0}). commandAt s h) (λ u x. u) (h .count) tt at j tt p) ×
     (commands ≡ map (λ (x : Command). x) (v .items) ++ replicate (32 - j) noCommand)
 
 abbrev μ-loop : tie.MeasureT-loop
@@ -38,24 +38,30 @@ read-command-requires c κs = search needs
 enum-known-answer : tie.Need-enum-known-answer Inv-loop μ-loop
 enum-known-answer c = search needs
 
+enum-told : tie.Need-enum-told Inv-loop μ-loop
+enum-told c = search needs
+
+number-requires : tie.Need-number-requires Inv-loop μ-loop
+number-requires c κs = search needs
+
+at-requires : tie.Need-at-requires Inv-loop μ-loop
+at-requires c κs = search needs
+
+no-commands-requires : tie.Need-no-commands-requires Inv-loop μ-loop
+no-commands-requires c κs = search needs
+
+returns : tie.Need-returns Inv-loop μ-loop
+returns c =
+    let told = c .before .before .before in
+    let read = told .before .before .before in
+    let e = one-refused _ _ _ (read .read-command .ensures) (reading-tells (told .enum-told .given .1) (c .before .before .number .ensures) (c .before .at .ensures)) in
+    c .no-commands .ensures ∙ rw (looped-stop (read .before .before .loop .inv .1) (read .before .loop-test .taken) e)
+
 mul-commands : tie.Need-mul-commands Inv-loop μ-loop
 mul-commands c = search needs
 
 array-set-from-commands : tie.Need-array-set-from-commands Inv-loop μ-loop
 array-set-from-commands c = search needs
-
-enum-known-answer-2 : tie.Need-enum-known-answer-2 Inv-loop μ-loop
-enum-known-answer-2 c = search needs
-
-none-at-requires : tie.Need-none-at-requires Inv-loop μ-loop
-none-at-requires c κs = search needs
-
-returns : tie.Need-returns Inv-loop μ-loop
-returns c =
-    let p = c .before .before in
-    let e = at-refused _ (p .before .before .before .read-command .ensures) (p .answer2 .given .1) in
-    c .none-at .ensures ∙
-    rw (looped-stop (p .before .before .before .before .before .loop .inv .1) (p .before .before .before .before .loop-test .taken) e)
 
 add-j : tie.Need-add-j Inv-loop μ-loop
 add-j c = search needs
@@ -65,12 +71,12 @@ loop-less c = search needs
 
 loop-again : tie.Need-loop-again Inv-loop μ-loop
 loop-again c =
-    let q = c .before .before .before .before in
-    let l = q .before .before .loop in
-    let a = q .before .before .before .before .before .before .args in
+    let read = c .before .before .before .before in
+    let l = read .before .before .loop in
+    let a = read .before .before .before .before .before .before .args in
     let (m, v, e) = l .inv in
-    let f = at-done (commandAt (a .h) (a .s .now) (l .p)) (q .read-command .ensures) (c .before .answer .given .1) in
-    (omega arith, looped-on v (q .before .loop-test .taken) f, fill-next (λ x. x) noCommand 32 (v .items) _ _ e (v .count) (omega arith))
+    let f = one-done (a .s .now) (l .p) (a .h) (read .read-command .ensures) (c .before .answer .given .1) in
+    (omega arith, looped-on v (read .before .loop-test .taken) f, fill-next (λ x. x) noCommand 32 (v .items) _ _ e (v .count) (omega arith))
 
 returns-2 : tie.Need-returns-2 Inv-loop μ-loop
 returns-2 c =
@@ -88,11 +94,13 @@ read-commands-spec =
     loop-holds
     read-command-requires
     enum-known-answer
+    enum-told
+    number-requires
+    at-requires
+    no-commands-requires
+    returns
     mul-commands
     array-set-from-commands
-    enum-known-answer-2
-    none-at-requires
-    returns
     add-j
     loop-less
     loop-again

@@ -41,13 +41,15 @@ use denote.Triple.Clauses.{ensured, lasts}
 use Rattle.model.specs.declared.Scheme.{Scheme}
 use Rattle.model.proofs.Scheme as table
 use Rattle.model.proofs.Scheme.Laws as table′
-use Rattle.scheme_bytes.specs.Answers.{readHead, readRest, readScheme}
-use Rattle.scheme_bytes.specs.declared.answers.HeadAt.{HeadAt}
+use Rattle.command_bytes.specs.Answers.{readHead}
+use Rattle.scheme_bytes.specs.Answers.{readScheme}
+use Rattle.scheme_bytes.specs.Inner.Answers.{readRest}
+use Rattle.command_bytes.specs.declared.answers.HeadAt.{HeadAt}
 use Rattle.scheme_bytes.specs.declared.answers.SchemeAnswer.{SchemeAnswer}
 use Rattle.scheme_bytes.specs.declared.reader.SchemeReader.{SchemeReader}
 use Rattle.scheme_bytes.proofs.ReadLaws.{read-both}
-use Rattle.scheme_bytes.proofs.answers.HeadAt as F
-use Rattle.scheme_bytes.proofs.answers.HeadAt.Laws as F′
+use Rattle.command_bytes.proofs.answers.HeadAt as F
+use Rattle.command_bytes.proofs.answers.HeadAt.Laws as F′
 use Rattle.scheme_bytes.proofs.answers.SchemeAnswer as R
 use Rattle.scheme_bytes.proofs.answers.SchemeAnswer.Laws as R′
 use Rattle.scheme_bytes.proofs.reader.SchemeReader as T

@@ -5,10 +5,10 @@ use native.Mathlib.Omega.{arith}
 use mathlib.Core.Path.{_≡_}
 use lib.ListN.{length, take, drop}
 use borrow.Author.Needs.{needs}
-use Rattle.scheme_bytes.specs.Write.{eachBytes}
 use Rattle.scheme_write.proofs.WriteLaws.{commandRecord, past, each-none, commands-there, commands-few, command-small, commands-next}
 use Rattle.scheme_write.proofs.write.commands_length.Statement.{statement}
 use Rattle.scheme_write.proofs.write.commands_length.Tie as tie
+use Rattle.records.specs.Bytes.{eachBytes}
 
 abbrev Inv-loop : tie.InvT-loop
 Inv-loop s n sum₀ j₀ sum j =

@@ -5,7 +5,7 @@ use native.Mathlib.Omega.{arith}
 use mathlib.Core.Path.{_≡_, _∙_}
 use lib.ListN.{length}
 use borrow.Author.Needs.{needs}
-use Rattle.scheme_bytes.specs.Write.{commandBytes}
+use Rattle.command_bytes.specs.Write.{commandBytes}
 use Rattle.scheme_write.proofs.WriteLaws.{length-command, command-stored}
 use Rattle.scheme_write.proofs.write.put_command.Statement.{statement}
 use Rattle.scheme_write.proofs.write.put_command.Tie as tie

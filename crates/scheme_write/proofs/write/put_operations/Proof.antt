@@ -5,12 +5,12 @@ use native.Mathlib.Omega.{arith}
 use mathlib.Core.Path.{_≡_}
 use lib.ListN.{length}
 use borrow.Author.Needs.{needs}
-use Rattle.accepted.proofs.Walks.{long}
-use Rattle.scheme_bytes.specs.Read.{noOperation}
-use Rattle.scheme_bytes.specs.Write.{operationBytes}
+use Rattle.laws.proofs.Walks.{long}
+use Rattle.command_bytes.specs.Write.{operationBytes}
 use Rattle.scheme_write.proofs.WriteLaws.{Storing, storing-start, storing-on, storing-end}
 use Rattle.scheme_write.proofs.write.put_operations.Statement.{statement}
 use Rattle.scheme_write.proofs.write.put_operations.Tie as tie
+use Rattle.model.specs.Scheme.{noOperation}
 
 abbrev Inv-loop : tie.InvT-loop
 Inv-loop part₀ i o n j₀ part j = (j ≤ n) × Storing operationBytes (o .list) n part₀ i part (i + 4 * j) j

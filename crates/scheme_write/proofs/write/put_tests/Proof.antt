@@ -5,12 +5,12 @@ use native.Mathlib.Omega.{arith}
 use mathlib.Core.Path.{_≡_}
 use lib.ListN.{length}
 use borrow.Author.Needs.{needs}
-use Rattle.accepted.proofs.Walks.{long}
-use Rattle.scheme_bytes.specs.Read.{noTest}
-use Rattle.scheme_bytes.specs.Write.{testBytes}
+use Rattle.laws.proofs.Walks.{long}
+use Rattle.command_bytes.specs.Write.{testBytes}
 use Rattle.scheme_write.proofs.WriteLaws.{Storing, storing-start, storing-on, storing-end}
 use Rattle.scheme_write.proofs.write.put_tests.Statement.{statement}
 use Rattle.scheme_write.proofs.write.put_tests.Tie as tie
+use Rattle.model.specs.Scheme.{noTest}
 
 abbrev Inv-loop : tie.InvT-loop
 Inv-loop part₀ i t n j₀ part j = (j ≤ n) × Storing testBytes (t .list) n part₀ i part (i + 4 * j) j

@@ -5,12 +5,12 @@ use native.Mathlib.Omega.{arith}
 use mathlib.Core.Path.{_≡_}
 use lib.ListN.{length}
 use borrow.Author.Needs.{needs}
-use Rattle.accepted.proofs.Walks.{long}
-use Rattle.scheme_bytes.specs.Read.{noType}
-use Rattle.scheme_bytes.specs.Write.{typeBytes}
+use Rattle.laws.proofs.Walks.{long}
+use Rattle.command_bytes.specs.Write.{typeBytes}
 use Rattle.scheme_write.proofs.WriteLaws.{Storing, storing-start, storing-on, storing-end}
 use Rattle.scheme_write.proofs.write.put_types.Statement.{statement}
 use Rattle.scheme_write.proofs.write.put_types.Tie as tie
+use Rattle.model.specs.Scheme.{noType}
 
 abbrev Inv-loop : tie.InvT-loop
 Inv-loop part₀ i p n j₀ part j = (j ≤ n) × Storing typeBytes (p .types) n part₀ i part (i + j) j
@@ -32,6 +32,9 @@ element-copy-out-t c = search needs
 add-put1 : tie.Need-add-put1 Inv-loop μ-loop
 add-put1 c = search needs
 
+byte-requires : tie.Need-byte-requires Inv-loop μ-loop
+byte-requires c κs = search needs
+
 put1-requires : tie.Need-put1-requires Inv-loop μ-loop
 put1-requires c κs = search needs
 
@@ -44,8 +47,10 @@ loop-less c = omega arith
 loop-again : tie.Need-loop-again Inv-loop μ-loop
 unfolding typeBytes
 loop-again c =
-    let p = c .before .before .before .before .before in
-    (omega arith, storing-on typeBytes (p .before .loop .inv .1) noType _ _ (p .loop-test .taken) (c .before .before .put1 .ensures) (omega arith))
+    let p = c .before .before in
+    let turn = p .before .before .before .before in
+    let e = rw (p .before .byte .ensures) at (p .put1 .ensures) in
+    (omega arith, storing-on typeBytes (turn .before .loop .inv .1) noType _ _ (turn .loop-test .taken) e (omega arith))
 
 same-length : tie.Need-same-length Inv-loop μ-loop
 same-length c = c .before .loop .inv .1 .same
@@ -63,6 +68,7 @@ put-types-spec =
     loop-holds
     element-copy-out-t
     add-put1
+    byte-requires
     put1-requires
     add-j
     loop-less

@@ -4,7 +4,7 @@ use native.Mathlib.Omega.{arith}
 use mathlib.Core.Path.{sym, _∙_}
 use borrow.Author.Tests.{not-true, not-false}
 use borrow.Author.Needs.{needs}
-use Rattle.model.proofs.Bools.{from-true}
+use Rattle.laws.proofs.Bools.{from-true}
 use Rattle.scheme_write.proofs.WriteLaws.{scheme-refused, scheme-short, scheme-done}
 use Rattle.scheme_write.proofs.write.write_scheme.Statement.{statement}
 use Rattle.scheme_write.proofs.write.write_scheme.Tie as tie

@@ -38,18 +38,18 @@ use denote.Triple.Table.{entered, cited}
 use denote.Triple.Walked.{says, Stays, stay-dropped, walkOf, goes-dropped, Walks, ends-at, walked, walk-meets}
 use denote.Exit.{yes}
 use denote.Triple.Clauses.{ensured, lasts}
-use Rattle.scheme_bytes.specs.Answers.{readHead}
-use Rattle.scheme_bytes.specs.declared.answers.HeadAt.{HeadAt}
+use Rattle.command_bytes.specs.Answers.{readHead}
+use Rattle.command_bytes.specs.declared.answers.HeadAt.{HeadAt}
 use Rattle.scheme_bytes.specs.declared.reader.SchemeReader.{SchemeReader}
 use Rattle.scheme_bytes.proofs.Held.{inputVal, input-of, input-owned}
-use Rattle.scheme_bytes.proofs.answers.HeadAt as F
-use Rattle.scheme_bytes.proofs.answers.HeadAt.Laws as F′
+use Rattle.command_bytes.proofs.answers.HeadAt as F
+use Rattle.command_bytes.proofs.answers.HeadAt.Laws as F′
 use Rattle.scheme_bytes.proofs.reader.SchemeReader as T
 use Rattle.scheme_bytes.proofs.reader.SchemeReader.Laws as T′
-use Rattle.scheme_bytes.proofs.read.read_head as read
-use Rattle.scheme_bytes.proofs.read.read_head.Symbol as read-def
-use Rattle.scheme_bytes.proofs.read.read_head.Symbol.{name as #read}
-use Rattle.scheme_bytes.proofs.read.read_head.Met as read-thm
+use Rattle.command_bytes.proofs.read_head as read
+use Rattle.command_bytes.proofs.read_head.Symbol as read-def
+use Rattle.command_bytes.proofs.read_head.Symbol.{name as #read}
+use Rattle.command_bytes.proofs.read_head.Met as read-thm
 use Rattle.scheme_bytes.proofs.reader.SchemeReader.head.Key.{name as #head}
 use Rattle.scheme_bytes.proofs.reader.SchemeReader.head as head
 use Rattle.scheme_bytes.proofs.reader.SchemeReader.head.Statement as stated
@@ -130,4 +130,4 @@ head-spec 𝓤 H 𝓜 𝓖 𝓡 =
     entered 𝓤 H (tripleOf 𝓤 H (𝓖 .A) head.signature (head.spec 𝓤 H (𝓖 .A) (𝓜 .mem) (𝓡 .run)))
     (tables 𝓤 H 𝓜 𝓡 code.env .C) (tables 𝓤 H 𝓜 𝓡 code.env .Λ) #head code.function (code.unfolded 𝓤 H 𝓜 𝓡)
     (meets 𝓤 H (𝓖 .A) (givenOf 𝓤 H 𝓜 𝓖) (𝓜 .mem) (𝓡 .run) (tablesOf 𝓤 H 𝓜 (tables 𝓤 H 𝓜 𝓡 code.env))
-    (cited 𝓤 H (ReadHead 𝓤 H (𝓖 .A) (𝓜 .mem) (𝓡 .run)) 𝓜 𝓡 code.env #read read-def.routine code.calls-scheme-bytes·read·read-head (read-thm.met 𝓤 H 𝓜 𝓖 𝓡)))
+    (cited 𝓤 H (ReadHead 𝓤 H (𝓖 .A) (𝓜 .mem) (𝓡 .run)) 𝓜 𝓡 code.env #read read-def.routine code.calls-command-bytes·read-head (read-thm.met 𝓤 H 𝓜 𝓖 𝓡)))

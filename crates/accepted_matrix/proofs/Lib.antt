@@ -1,0 +1,2 @@
+-- The laws that the proofs of `accepted_matrix` cite.
+pub mod MatrixLaws

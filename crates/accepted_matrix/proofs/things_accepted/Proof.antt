@@ -1,0 +1,26 @@
+-- The two calls are `acceptedThings` but for the number of ids and of types, which is the arrays'.
+use mathlib.Core.Path.{_≡_}
+use lib.ListN.{length}
+use borrow.Author.Needs.{needs}
+use borrow.Author.Tests.{eq-eqb}
+use Rattle.laws.proofs.Walks.{long}
+use Rattle.model.specs.Accepted.{acceptedThings}
+use Rattle.accepted_matrix.proofs.things_accepted.Statement.{statement}
+use Rattle.accepted_matrix.proofs.things_accepted.Tie as tie
+
+ids-apart-requires : tie.Need-ids-apart-requires
+ids-apart-requires c κs = search needs
+
+seats-accepted-requires : tie.Need-seats-accepted-requires
+seats-accepted-requires c κs = search needs
+
+returns : tie.Need-returns
+unfolding acceptedThings
+returns c =
+    let th = c .before .before .before .args .th in
+    let full : length (th .ids) ≡ 48 = search needs in
+    let typed : length (th .types) ≡ 48 = search (needs, long) in
+    rw (c .before .ids-apart .ensures, c .seats-accepted .ensures, eq-eqb _ _ full, eq-eqb _ _ typed)
+
+pub things-accepted-spec : {M : Type 1} → statement M
+things-accepted-spec = tie.close (tie.spec ids-apart-requires seats-accepted-requires returns)

@@ -1,0 +1,150 @@
+-- A run call of the library is a run of what its bytes are: it tells the same, stores the same answers, and what it wrote reads as a matrix that stands for
+-- the one which the run left.
+-- Assumes nothing.
+use Prim.Native.Nat.{ℕ, _*_, _≤_}
+use native.Mathlib.Omega.{arith}
+use native.Mathlib.Nat.{zero-add}
+use mathlib.Core.Path.{_≡_, refl, sym, ap, _∙_}
+use mathlib.Core.Bool.{Bool, true, false, cond}
+use mathlib.Core.List.{List}
+use lib.Dec.{T, leb, leb→le}
+use lib.ListN.{length, take, getD}
+use borrow.Author.Tests.{le-leb}
+use Rattle.laws.proofs.Bools.{is-true}
+use Rattle.model.specs.Request.{Request, run}
+use Rattle.model.specs.Answers.{replyWidth}
+use Rattle.model.specs.Seats.{Matrix, seats, standsFor}
+use Rattle.model.specs.Accepted.{acceptedScheme, acceptedMatrix}
+use Rattle.model.specs.declared.Scheme.{Scheme}
+use Rattle.records.specs.Writing.{placed}
+use Rattle.records.specs.declared.Reading.{Reading}
+use Rattle.records.specs.declared.Reading.the-variants as reading
+use Rattle.records.proofs.PlacedLaws.{take-through-placed}
+use Rattle.matrix_bytes.specs.Answers.{readMatrix}
+use Rattle.matrix_bytes.specs.FunctionTrips.{reseated}
+use Rattle.matrix_bytes.proofs.RoundTrips.{round-trips}
+use Rattle.request_list.specs.List.{Listed, readList}
+use Rattle.engine.specs.List.{Result, repliesTo, runOn}
+use Rattle.engine.specs.declared.answers.RunAnswer.{RunAnswer}
+use Rattle.engine.specs.declared.answers.RunAnswer.the-variants as ended
+use Rattle.robot.specs.Library.{Called, Ran, bytesAfter, endedBy, notRun, runMatrix, runAgainst, runBytes}
+use Rattle.robot.specs.Inner.Parts.{endingBy}
+use Rattle.robot.proofs.RunLaws.{all-kept, always-fits, ended-told}
+use Rattle.agreement.specs.LibraryAgrees.{stored, written, besidesWritten, matrixAfter, HasRoom, IsScheme, IsMatrix, AllCarriedOut}
+use Rattle.agreement.specs.Agreement.{leftBy, CarriedOut}
+use Rattle.agreement.proofs.Agreement.{asked, room, ranIf, ran}
+use Rattle.agreement.proofs.LibraryCalls.{with-scheme, with-matrix}
+
+-- a call tells what a run told, with the size of what it wrote
+pub record AsRun (s : Scheme) (c : Ran) (r : Result) : Type 0 where
+  pub size : ℕ
+  pub called : c .called ≡ endingBy size (r .ran .answer)
+  pub answers : c .answers ≡ r .replies
+  pub left : c .called .number ≡ 0 → (end : Matrix) × IsMatrix (matrixAfter c) s end × (standsFor end ≡ leftBy r)
+
+-- ---- of accepted ones, where there is room for the matrix
+written-ended : (count size : ℕ) (e : Reading) → written (endedBy count size e) ≡ size
+written-ended count size (reading.Done next) = refl
+written-ended count size (reading.Refused k at) = refl
+
+module _ (s : Scheme) (m : Matrix) (ok : T (acceptedScheme s)) (of : T (acceptedMatrix (s .head) m)) (requests results out : List ℕ) where
+  abbrev list : Listed
+  list = readList requests
+
+  abbrev after : List ℕ
+  after = bytesAfter s m list
+
+  abbrev end : Matrix
+  end = run seats s m (list .requests)
+
+  end-ok : T (acceptedMatrix (s .head) end)
+  end-ok = all-kept s ok m (list .requests) of
+
+  reads-after : IsMatrix after s (reseated s end)
+  unfolding bytesAfter readMatrix
+  reads-after = rw (is-true (acceptedScheme s) ok, round-trips .there s end ok end-ok)
+
+  module _ (inside : length after ≤ length out) where
+    stood : take (length after) (placed out 0 after) ≡ after
+    stood = rw zero-add at (take-through-placed out 0 after (rw zero-add inside))
+
+    abbrev callIf : Bool → Ran
+    callIf fits =
+        cond fits
+        (record {
+          called = endedBy (length (list .requests)) (length after) (list .ending);
+          answers = placed results 0 (repliesTo s m (list .requests));
+          out = placed out 0 after;
+        })
+        (notRun results out 9 4 0)
+
+    as-run-if : (fits : Bool) → AsRun s (callIf fits) (ranIf s m requests results fits)
+    unfolding matrixAfter leftBy
+    as-run-if true = record {
+      size = length after;
+      called = sym (ended-told (length (list .requests)) (length after) (list .ending));
+      answers = refl;
+      left = λ z. (
+        reseated s end,
+        rw (written-ended (length (list .requests)) (length after) (list .ending), stood) reads-after,
+        round-trips .sameContent s end ok end-ok,
+      );
+    }
+    as-run-if false = record { size = 0; called = refl; answers = refl; left = λ z. absurd (omega arith) }
+
+    as-run : AsRun s (runMatrix s m list results out) (runOn s m requests results)
+    unfolding runMatrix
+    as-run = rw (ran s m ok of requests results, le-leb _ _ inside) (as-run-if (room requests results))
+
+-- ---- the call, on bytes of a scheme and of a matrix of it that are accepted
+pub record Held (scheme matrix : List ℕ) (s : Scheme) (m : Matrix) : Type 0 where
+  pub ok : T (acceptedScheme s)
+  pub of : T (acceptedMatrix (s .head) m)
+  pub isScheme : IsScheme scheme s
+  pub isMatrix : IsMatrix matrix s m
+
+module _ {scheme matrix : List ℕ} {s : Scheme} {m : Matrix} (h : Held scheme matrix s m) (requests results out : List ℕ) where
+  abbrev call : Ran
+  call = runBytes scheme matrix requests results out
+
+  run-is : call ≡ runMatrix s m (readList requests) results out
+  unfolding runBytes runAgainst
+  run-is = with-scheme (notRun results out) scheme s _ (h .isScheme) ∙ with-matrix (notRun results out) matrix s m _ (h .isMatrix)
+
+  pub call-runs : HasRoom out → AsRun s call (runOn s m requests results)
+  call-runs fits = rw run-is (as-run s m (h .ok) (h .of) requests results out (always-fits s (h .ok) m (h .of) (readList requests) (length out) fits))
+
+  -- one that gave 0 had room for all of it
+  pub had-room : call .called .number ≡ 0 → (replyWidth * length (asked requests) ≤ length results) × AsRun s call (runOn s m requests results)
+  unfolding runMatrix
+  had-room e =
+      let n : ℕ = replyWidth * length (asked requests) in
+      let k : ℕ = length (bytesAfter s m (readList requests)) in
+      let (a, b) = by (leb n (length results)) (leb k (length out)) _ (rw run-is at e) in
+      (leb→le n _ a, rw run-is (as-run s m (h .ok) (h .of) requests results out (leb→le k _ b)))
+    where
+      by : (a b : Bool) (r : Ran) → cond a (cond b r (notRun results out 9 5 0)) (notRun results out 9 4 0) .called .number ≡ 0 → T a × T b
+      by true true r e = (tt, tt)
+      by true false r e = absurd (omega arith)
+      by false b r e = absurd (omega arith)
+
+-- ---- two calls whose runs ended alike tell the same but for the bytes written
+alike : (x y : ℕ) (a : RunAnswer) → (endingBy x a .number ≡ endingBy y a .number) × (besidesWritten (endingBy x a) ≡ besidesWritten (endingBy y a))
+alike x y (ended.Whole count) = (refl, refl)
+alike x y (ended.Bad count k at) = (refl, refl)
+alike x y (ended.Refused k) = (refl, refl)
+
+pub same-told : {s s′ : Scheme} {c c′ : Ran} {r r′ : Result} → AsRun s c r → AsRun s′ c′ r′ → r′ .ran .answer ≡ r .ran .answer →
+    (c′ .called .number ≡ c .called .number) × (besidesWritten (c′ .called) ≡ besidesWritten (c .called))
+same-told {r = r} a b same = rw (a .called, b .called, same) (alike (b .size) (a .size) (r .ran .answer))
+
+-- ---- what a run carried out, the call did
+pub all-done : {s : Scheme} {qs : List Request} {c : Ran} {r : Result} → AsRun s c r → CarriedOut qs r → AllCarriedOut qs c
+all-done {qs = qs} {c = c} a did =
+    let told : c .called ≡ endingBy (a .size) (ended.Whole (length qs)) = a .called ∙ rw (did .ended) in
+    record {
+      called = ap (λ (x : Called). x .number) told;
+      whole = ap (λ (x : Called). getD (x .report) 4 0) told;
+      asMany = ap stored told;
+      replied = rw (a .answers) (did .replied);
+    }

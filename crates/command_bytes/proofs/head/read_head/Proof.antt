@@ -1,0 +1,65 @@
+-- `head::read_head` meets its contract: the record that stands there, and its body read as a head.
+-- Assumes nothing.
+use mathlib.Core.Path.{_∙_}
+use Rattle.records.proofs.FrontLaws.{record-found, in-refused, in-record}
+use Rattle.command_bytes.specs.Answers.{readHead}
+use Rattle.command_bytes.proofs.Told.{tells, record-tells}
+use borrow.Author.Needs.{needs}
+use Rattle.command_bytes.proofs.head.read_head.Statement.{statement}
+use Rattle.command_bytes.proofs.head.read_head.Tie as tie
+
+record-at-requires : tie.Need-record-at-requires
+record-at-requires c κs = search needs
+
+enum-known-found : tie.Need-enum-known-found
+enum-known-found c = search needs
+
+enum-told : tie.Need-enum-told
+enum-told c = search needs
+
+number-requires : tie.Need-number-requires
+number-requires c κs = search needs
+
+at-requires : tie.Need-at-requires
+at-requires c κs = search needs
+
+returns : tie.Need-returns
+unfolding readHead
+returns c =
+    let told = c .before .before in
+    let e = record-tells (told .before .before .record-at .ensures) (told .enum-told .given .1) (c .before .number .ensures) (c .at .ensures) in
+    rw (in-refused _ _ _ _ _ _ e)
+
+body-requires : tie.Need-body-requires
+body-requires c κs = search needs
+
+add-head-of : tie.Need-add-head-of
+add-head-of c =
+    let found = c .before .before in
+    let f = record-found _ _ _ _ _ _ (tells (found .before .before .record-at .ensures) (found .found .given .1)) in
+    search needs
+
+head-of-requires : tie.Need-head-of-requires
+head-of-requires c κs = search needs
+
+returns-2 : tie.Need-returns-2
+unfolding readHead
+returns-2 c =
+    let found = c .before .before .before in
+    let e = tells (found .before .before .record-at .ensures) (found .found .given .1) in
+    c .head-of .ensures ∙ rw (c .before .body .ensures, in-record _ _ _ _ _ _ _ e)
+
+pub read-head-spec : {M : Type 1} → statement M
+read-head-spec =
+    tie.close
+    (tie.spec
+    record-at-requires
+    enum-known-found
+    enum-told
+    number-requires
+    at-requires
+    returns
+    body-requires
+    add-head-of
+    head-of-requires
+    returns-2)

@@ -1,0 +1,6 @@
+-- Laws that belong to no one crate.
+pub mod Bools
+pub mod Differ
+pub mod Padded
+pub mod Walks
+pub mod Filling

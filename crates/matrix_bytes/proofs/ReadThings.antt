@@ -1,0 +1,77 @@
+-- Reading the head and the things of a matrix, as the returns of those functions have them: the things that were read take the seats from the first
+-- on. Assumes nothing.
+use Prim.Native.Nat.{ℕ, _≤_}
+use native.Mathlib.Omega.{arith}
+use mathlib.Core.List.{List, [], _∷_, _++_}
+use mathlib.Core.Path.{_≡_, sym, ap, _∙_}
+use lib.ListN.{length}
+use Rattle.rights.specs.declared.ThingType.{ThingType}
+use Rattle.model.specs.Request.{ofType}
+use Rattle.model.specs.Seats.{noThings, putThing}
+use Rattle.model.specs.declared.Head.{Head}
+use Rattle.model.specs.declared.Things.{Things}
+use Rattle.laws.proofs.Differ.{constructors-differ}
+use Rattle.records.specs.Reading.{Read, got, fault, Reader, steps}
+use Rattle.records.specs.Front.{Refusal, inRecord}
+use Rattle.records.specs.Told.{ofReading, readingPlace}
+use Rattle.records.specs.declared.Reading.{Reading}
+use Rattle.records.specs.declared.Reading.the-variants as reading
+use Rattle.records.proofs.Trip.{Bytes}
+use Rattle.matrix_records.specs.Content.{ThingRecord}
+use Rattle.matrix_records.specs.Read.{head, thing}
+use Rattle.matrix_records.proofs.Trips.{Sized, head-record}
+use Rattle.matrix_records.proofs.ReadBack.{refusal}
+use Rattle.matrix_bytes.specs.Content.{seatAll, thingsFrom}
+use Rattle.matrix_bytes.specs.Inner.Parts.{asThings}
+use Rattle.matrix_bytes.specs.declared.answers.MatrixAnswer.{MatrixAnswer}
+use Rattle.matrix_bytes.proofs.Seating.{from-next}
+use Rattle.matrix_bytes.proofs.Rising.{Rising}
+use Rattle.matrix_bytes.proofs.Trips.{stand-le, things-trip}
+
+-- ---- in a loop: none yet, and one more
+pub things-none : (th : Things) → th ≡ noThings → th ≡ thingsFrom []
+unfolding thingsFrom seatAll
+things-none th e = e
+
+pub things-on : (items : List ThingRecord) (j : ℕ) → length items ≡ j → (th : Things) → th ≡ thingsFrom items → (id : ℕ) (of : ThingType) (new : Things) →
+    new ≡ putThing j id (ofType of) th → new ≡ thingsFrom (items ++ record { id = id; thing = ofType of } ∷ [])
+things-on items j n th e id of new en = rw (en, e, ← n) (sym (from-next items (record { id = id; thing = ofType of })))
+
+-- ---- from the answer back
+module _ (m : Read ℕ Refusal (List ThingRecord)) (r : MatrixAnswer) (er : r ≡ asThings m) where
+  pub things-good : (next : ℕ) → r .answer ≡ reading.Done next → (ts : List ThingRecord) × (m ≡ got ts next) × (r .things ≡ thingsFrom ts)
+  things-good next e = go m (rw er at e) (ap (λ (a : MatrixAnswer). a .things) er)
+    where
+      go : (m : Read ℕ Refusal (List ThingRecord)) → asThings m .answer ≡ reading.Done next → r .things ≡ asThings m .things →
+          (ts : List ThingRecord) × (m ≡ got ts next) × (r .things ≡ thingsFrom ts)
+      go (got ts j) e t = let f : j ≡ next = cc in (ts, rw f, t)
+      go (fault f) e t = constructors-differ (cc)
+
+  pub things-bad : (k q v w : ℕ) → r .answer ≡ reading.Refused k q → v ≡ ofReading (r .answer) .number → w ≡ readingPlace (r .answer) →
+      m ≡ fault (refusal v w)
+  things-bad k q v w e ev ew = go m (ap (λ (a : MatrixAnswer). a .answer) er)
+    where
+      go : (m : Read ℕ Refusal (List ThingRecord)) → r .answer ≡ asThings m .answer → m ≡ fault (refusal v w)
+      go (got ts j) f = constructors-differ (cc)
+      go (fault f) g =
+          let x : v ≡ f .number = ev ∙ ap (λ (a : Reading). ofReading a .number) g in
+          let y : w ≡ f .at = ew ∙ ap readingPlace g in
+          rw (x, y)
+
+-- ---- what was read
+module _ (s : List ℕ) (h : Head) where
+  abbrev pub headRead : Read ℕ Refusal ℕ
+  headRead = inRecord s 8 (λ kind. head h) 0
+
+  abbrev pub thingsRead : ℕ → Reader ℕ Refusal (List ThingRecord)
+  thingsRead count = steps (λ last. inRecord s 16 (λ kind. thing h last)) (λ last t. t .id) count 0
+
+  module _ (z : Sized h) (g : Bytes s) (count at : ℕ) (e : headRead ≡ got count at) where
+    pub head-few : count ≤ 48
+    head-few = head-record h z s .back 0 at count g e .1
+
+    pub things-end : (ts : List ThingRecord) (next : ℕ) → thingsRead count at ≡ got ts next → Rising h 0 ts × (length ts ≡ count) × (next ≤ length s)
+    things-end ts next f =
+        let a = head-record h z s .back 0 at count g e .0 in
+        let (b, up) = things-trip h z s count .back at next ts g f in
+        (up .0, up .1, stand-le b (stand-le a (omega arith)))

@@ -1,0 +1,52 @@
+-- The answers of the functions, from what the definitions give: what was read with the kind of its record and the next position, or the number and
+-- the record's position.
+-- Assumes nothing.
+use Prim.Native.Nat.{ℕ, _+_, _*_}
+use mathlib.Core.Bool.{cond}
+use mathlib.Core.List.{List}
+use lib.Dec.{leb}
+use lib.ListN.{length, take}
+use Rattle.model.specs.Seats.{find}
+use Rattle.records.specs.Bytes.{number2}
+use Rattle.records.specs.Reading.{Read, got, fault}
+use Rattle.records.specs.Front.{Refusal}
+use Rattle.records.specs.declared.RecordAnswer.{RecordAnswer}
+use Rattle.records.specs.declared.RecordAnswer.the-variants.{Record, Refused}
+use Rattle.matrix_records.specs.Content.{ThingRecord, CellRecord}
+use Rattle.matrix_records.specs.declared.answers.HeadAt.{HeadAt}
+use Rattle.matrix_records.specs.declared.answers.HeadAt.the-variants as head-at
+use Rattle.matrix_records.specs.declared.answers.ThingAt.{ThingAt}
+use Rattle.matrix_records.specs.declared.answers.ThingAt.the-variants as thing-at
+use Rattle.matrix_records.specs.declared.answers.CellAt.{CellAt}
+use Rattle.matrix_records.specs.declared.answers.CellAt.the-variants as cell-at
+
+-- the kind of the record that stands at a position
+abbrev pub kindAt : List ℕ → ℕ → ℕ
+kindAt s at = number2 s (at + 2)
+
+-- that record whatever its kind: its front (1), its body's end (1)
+unfoldable pub anyRecordAt : List ℕ → ℕ → RecordAnswer
+anyRecordAt s at =
+    cond (leb (at + 4) (length s))
+    (cond (leb (at + 4 + number2 s at) (length s)) (Record (kindAt s at) (at + 4) (number2 s at)) (Refused 1 at))
+    (Refused 1 at)
+
+abbrev pub asHeadAt : ℕ → Read ℕ Refusal ℕ → HeadAt
+asHeadAt kind (got count next) = head-at.Good kind count next
+asHeadAt kind (fault f) = head-at.Refused (f .number) (f .at)
+
+abbrev pub asThingAt : ℕ → Read ℕ Refusal ThingRecord → ThingAt
+asThingAt kind (got t next) = thing-at.Good kind (t .id) (t .thing .type) next
+asThingAt kind (fault f) = thing-at.Refused (f .number) (f .at)
+
+-- a cell at a row and a column, as the one before
+abbrev pub lastOf : ℕ → ℕ → CellRecord
+lastOf row column = record { row = row; column = column; rights = 0 }
+
+-- where a cell of two of the first n things is kept
+unfoldable pub placeIn : ℕ → List ℕ → CellRecord → ℕ
+placeIn n ids c = find (take n ids) (c .row) * 48 + find (take n ids) (c .column)
+
+abbrev pub asCellAt : ℕ → List ℕ → ℕ → Read ℕ Refusal CellRecord → CellAt
+asCellAt n ids kind (got c next) = cell-at.Good kind (c .row) (c .column) (placeIn n ids c) (c .rights) next
+asCellAt n ids kind (fault f) = cell-at.Refused (f .number) (f .at)

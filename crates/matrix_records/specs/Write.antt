@@ -1,0 +1,16 @@
+-- The bytes of a matrix's records: the body of the head, of a thing and of a cell.
+-- Assumes nothing.
+use Prim.Native.Nat.{ℕ}
+use mathlib.Core.List.{List, [], _∷_, _++_}
+use Rattle.rights.specs.Numberings.{typeByte}
+use Rattle.records.specs.Bytes.{littleEndian}
+use Rattle.matrix_records.specs.Content.{ThingRecord, CellRecord}
+
+unfoldable pub headBytes : ℕ → ℕ → List ℕ
+headBytes n count = n ∷ count ∷ []
+
+unfoldable pub thingBytes : ThingRecord → List ℕ
+thingBytes t = littleEndian 2 (t .id) ++ typeByte (t .thing .type) ∷ []
+
+unfoldable pub cellBytes : CellRecord → List ℕ
+cellBytes c = littleEndian 2 (c .row) ++ littleEndian 2 (c .column) ++ littleEndian 8 (c .rights)

@@ -1,0 +1,114 @@
+-- Where the refusal of a request comes from: what holds of each refusal that one of its checks can give, holds of its answer.
+-- Assumes nothing.
+use Prim.Native.Nat.{ℕ, suc}
+use mathlib.Core.Bool.{Bool, true, false, not, cond}
+use mathlib.Core.Option.{Option, none, some}
+use mathlib.Core.List.{List, [], _∷_}
+use lib.Dec.{eqb}
+use lib.ListN.{length, getElem?}
+use Rattle.rights.specs.Numberings.{parameter, sameType}
+use Rattle.rights.specs.declared.Right.{Right}
+use Rattle.rights.specs.declared.ThingType.{ThingType}
+use Rattle.laws.specs.Check.{_orElse_, must, isSome}
+use Rattle.model.specs.Scheme.{parametersOf, testsOf, operationsOf, commandsOf, isNew}
+use Rattle.model.specs.Request.{Request, Thing, View, at, Answer, Outcome, done, refused, answer, isId, unlessFault, andThen, typeFault, placeFault, placesFault}
+use Rattle.model.specs.Request.{holds, testsFault, act, operate, operateAll, carryOut, carryOutIf, step}
+use Rattle.model.specs.declared.Test.{Test}
+use Rattle.model.specs.declared.Code.{Code}
+use Rattle.model.specs.declared.Code.the-variants.{Enter, Delete, Create, Destroy}
+use Rattle.model.specs.declared.Operation.{Operation}
+use Rattle.model.specs.declared.Command.{Command}
+use Rattle.model.specs.declared.Refusal.{Refusal}
+use Rattle.model.specs.declared.Scheme.{Scheme}
+
+-- the refusal, if there is one, is so
+unfoldable pub IfRefused : (Refusal → Type 0) → Answer → Type 0
+IfRefused P none = Unit {0}
+IfRefused P (some r) = P r
+
+-- all the refusals that a request can meet are so
+pub record EveryRefusal (P : Refusal → Type 0) : Type 0 where
+  pub noCommand : P (at 10 0)
+  pub otherCount : P (at 11 0)
+  pub noThing : P (at 12 0)
+  pub otherType : P (at 13 0)
+  pub falseTest : (p : ℕ) → P (at 14 p)
+  pub mayNot : (p : ℕ) → P (at 15 p)
+  pub isFull : (p : ℕ) → P (at 16 p)
+  pub isGone : (p : ℕ) → P (at 17 p)
+
+module _ (P : Refusal → Type 0) where
+  must-give : (b : Bool) (r : Refusal) → P r → IfRefused P (must b r)
+  unfolding must IfRefused
+  must-give true r h = tt
+  must-give false r h = h
+
+  or-give : (f g : Answer) → IfRefused P f → IfRefused P g → IfRefused P (f orElse g)
+  unfolding _orElse_ IfRefused
+  or-give none g h k = k
+  or-give (some r) g h k = h
+
+  cond-give : (b : Bool) (f : Answer) → IfRefused P f → IfRefused P (cond b none f)
+  unfolding IfRefused
+  cond-give true f h = tt
+  cond-give false f h = h
+
+  module _ {M : Type 0} where
+    unless-give : (f : Answer) (o : Outcome M) → IfRefused P f → IfRefused P (answer o) → IfRefused P (answer (unlessFault f o))
+    unfolding unlessFault answer
+    unless-give none o h k = k
+    unless-give (some r) o h k = h
+
+    then-give : (o : Outcome M) (f : M → Outcome M) → IfRefused P (answer o) → ((m : M) → IfRefused P (answer (f m))) →
+        IfRefused P (answer (andThen o f))
+    unfolding andThen answer
+    then-give (done m) f h k = k m
+    then-give (refused r) f h k = h
+
+  module _ (each : EveryRefusal P) where
+    type-gives : (t : ThingType) (o : Option Thing) → IfRefused P (typeFault t o)
+    unfolding typeFault IfRefused
+    type-gives t none = each .noThing
+    type-gives t (some u) = must-give (sameType (u .type) t) (at 13 0) (each .otherType)
+
+    module _ {M : Type 0} (view : View M) where
+      places-give : (m : M) (os : List Operation) (p : ℕ) (ts : List ThingType) (xs : List ℕ) → IfRefused P (placesFault view m os p ts xs)
+      unfolding placesFault placeFault IfRefused
+      places-give m os p [] xs = tt
+      places-give m os p (t ∷ ts) [] = tt
+      places-give m os p (t ∷ ts) (x ∷ xs) =
+          or-give _ _ (or-give _ _ (must-give (isId x) (at 12 0) (each .noThing)) (cond-give (isNew os (parameter p)) _ (type-gives t (view .thing m x))))
+          (places-give m os (suc p) ts xs)
+
+      tests-give : (m : M) (ids : List ℕ) (p : ℕ) (ts : List Test) → IfRefused P (testsFault view m ids p ts)
+      unfolding testsFault IfRefused
+      tests-give m ids p [] = tt
+      tests-give m ids p (t ∷ ts) = or-give _ _ (must-give (holds view m ids t) (at 14 p) (each .falseTest p)) (tests-give m ids (suc p) ts)
+
+      act-gives : (p : ℕ) (c : Code) (r : Right) (x y : ℕ) (t : ThingType) (m : M) → IfRefused P (answer (act view p c r x y t m))
+      unfolding act answer IfRefused
+      act-gives p Enter r x y t m = tt
+      act-gives p Delete r x y t m = tt
+      act-gives p Create r x y t m =
+          unless-give _ _
+          (or-give _ _ (must-give (view .mayCreate m x) (at 15 p) (each .mayNot p)) (must-give (not (view .full m)) (at 16 p) (each .isFull p))) tt
+      act-gives p Destroy r x y t m = unless-give _ _ (must-give (isSome (view .thing m x)) (at 17 p) (each .isGone p)) tt
+
+      operations-give : (types : List ThingType) (ids : List ℕ) (p : ℕ) (os : List Operation) (m : M) →
+          IfRefused P (answer (operateAll view types ids p os m))
+      unfolding operateAll operate answer IfRefused
+      operations-give types ids p [] m = tt
+      operations-give types ids p (o ∷ os) m = then-give _ _ (act-gives p (o .code) _ _ _ _ m) (operations-give types ids (suc p) os)
+
+      command-gives : (m : M) (ids : List ℕ) (c : Option Command) → IfRefused P (answer (carryOutIf view m ids c))
+      unfolding carryOutIf carryOut answer IfRefused
+      command-gives m ids none = each .noCommand
+      command-gives m ids (some c) =
+          unless-give _ _
+          (or-give _ _ (must-give (eqb (length ids) (length (parametersOf (c .parameters)))) (at 11 0) (each .otherCount))
+          (or-give _ _ (places-give m (operationsOf (c .operations)) 0 (parametersOf (c .parameters)) ids) (tests-give m ids 0 (testsOf (c .tests)))))
+          (operations-give (parametersOf (c .parameters)) ids 0 (operationsOf (c .operations)) m)
+
+      pub request-gives : (s : Scheme) (m : M) (q : Request) → IfRefused P (answer (step view s m q))
+      unfolding step
+      request-gives s m q = command-gives m (q .ids) (getElem? (commandsOf s) (q .command))

@@ -1,0 +1,6 @@
+-- The laws that the proofs of `plan` cite.
+pub mod SeatFound
+pub mod PlaceLaws
+pub mod PlanLaws
+pub mod Sits
+pub mod Seated

@@ -1,0 +1,2 @@
+-- The laws that the proofs of `things` cite.
+pub mod SeatLaws

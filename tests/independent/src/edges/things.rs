@@ -1,0 +1,91 @@
+//! Seats asked for ids, things put at seats, and cells copied: what is found and what isn't, the first seat, the last and those past it, lists of other
+//! lengths.
+
+use super::examples::{key_matrix, key_scheme};
+use super::{case, Case, Task};
+
+pub fn cases() -> Vec<Case> {
+    let mut cases = vec![
+        key_scheme("scheme-of-things"),
+        key_matrix("matrix-of-things"),
+    ];
+    cases.extend(asked("key"));
+    cases.extend(puts());
+    cases.extend(full());
+    cases.extend(copies());
+    cases
+}
+
+/// Things 5, 9 and 12 sit at 0, 1 and 2; id 0 is that of a free seat.
+fn asked(label: &str) -> Vec<Case> {
+    let mut cases = Vec::new();
+    for first in [0, 1, 2, 3, 4, 47, 48, 49, u64::MAX] {
+        for id in [0, 5, 9, 10, 12, 65_535] {
+            let label = format!("{label}-seat-of-{id}-in-{first}");
+            cases.push(case(label, Task::Seats { first, id }));
+        }
+    }
+    cases
+}
+
+fn put(label: &str, seat: u64, id: u16, kind: u8) -> Case {
+    let task = Task::PutThing { seat, id, kind };
+    case(format!("put-{label}"), task)
+}
+
+/// Past the last seat nothing changes; of two seats with one id the first is found.
+fn puts() -> Vec<Case> {
+    let mut cases = vec![
+        put("at-48", 48, 77, 1),
+        put("at-49", 49, 77, 1),
+        put("at-255", 255, 77, 1),
+        put("at-256", 256, 77, 1),
+        put("at-the-last", u64::MAX, 77, 1),
+        case("put-totals", Task::Totals),
+        put("at-47", 47, 65_535, 2),
+        case("put-totals-at-47", Task::Totals),
+        put("second-9", 46, 9, 255),
+    ];
+    cases.extend(asked("second"));
+    cases.push(put("free-1", 1, 0, 0));
+    cases.push(put("over-0", 0, 12, 1));
+    cases.extend(asked("moved"));
+    cases.push(case("no-things", Task::NoThings));
+    cases.push(case("no-things-accepted", Task::Accepted));
+    cases.push(case("no-things-totals", Task::Totals));
+    cases.extend(asked("none"));
+    cases
+}
+
+/// No seat is free, and each id is found at its own.
+fn full() -> Vec<Case> {
+    let mut cases = Vec::new();
+    for seat in 0..48 {
+        cases.push(put(&format!("full-{seat}"), seat, 1_000 + seat as u16, 2));
+    }
+    for id in [0, 999, 1_000, 1_046, 1_047, 1_048] {
+        for first in [0, 1, 46, 47, 48, 49] {
+            let label = format!("full-seat-of-{id}-in-{first}");
+            cases.push(case(label, Task::Seats { first, id }));
+        }
+    }
+    cases
+}
+
+/// As many as both have: fewer cells lent than sets, as many, and more.
+fn copies() -> Vec<Case> {
+    let sets = [u64::MAX, 0, 1, 1 << 63];
+    let mut cases = Vec::new();
+    for cells in [0, 1, 2, 3, 4, 5, 2_303, 2_304, 2_305, 2_400] {
+        for many in [0, 1, 3, 4] {
+            let label = format!("copy-{many}-to-{cells}");
+            cases.push(key_matrix(&format!("{label}-matrix")));
+            let copy = Task::CopyCells(sets[..many].to_vec());
+            cases.push(Case {
+                cells,
+                ..case(label, copy)
+            });
+        }
+    }
+    cases
+}
