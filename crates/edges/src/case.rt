@@ -83,17 +83,3 @@ pub(crate) fn numbers(b: &[u8]) -> [u64; 4]
         eight_at(b, 24),
     ]
 }
-
-// A seat for each of eight parameters.
-pub(crate) fn spots(b: &[u8]) -> [u8; 8] {
-    [
-        one_at(b, 0),
-        one_at(b, 1),
-        one_at(b, 2),
-        one_at(b, 3),
-        one_at(b, 4),
-        one_at(b, 5),
-        one_at(b, 6),
-        one_at(b, 7),
-    ]
-}

@@ -1,6 +1,5 @@
-// The tasks 60 to 65, which only ask of the scheme and the matrix: what is accepted, the totals, what the checks of form look up, and seats.
+// The tasks 60 to 64, which only ask of the scheme and the matrix: what is accepted, the totals, what the checks of form look up, and seats.
 use crate::case;
-use crate::plans;
 use crate::print;
 use crate::values;
 use model::Scheme;
@@ -9,7 +8,7 @@ use rights::Parameter;
 
 fn all(s: Scheme, th: Things, cells: &[u64]) {
     let h = s.head;
-    print::number(accepted::head_fault(h).number() as u64);
+    print::byte(accepted::head_fault(h).number());
     print::flag(accepted::scheme_accepted(s));
     print::flag(accepted_matrix::things_accepted(h, th));
     print::flag(accepted_matrix::matrix_accepted(h, th, cells));
@@ -18,7 +17,7 @@ fn all(s: Scheme, th: Things, cells: &[u64]) {
 fn command(i: usize, s: Scheme) {
     let h = s.head;
     let c = values::command_at(s, i);
-    print::number(accepted::command_fault(h, c).number() as u64);
+    print::byte(accepted::command_fault(h, c).number());
     print::flag(accepted::command_accepted(h, c));
 }
 
@@ -29,7 +28,7 @@ fn count(s: Scheme, th: Things, cells: &[u64]) {
             cells,
             entries,
         } => print::numbers(&[0, things as u64, cells as u64, entries as u64]),
-        totals::Totals::Refused(x) => print::number(x as u64),
+        totals::Totals::Refused(x) => print::byte(x),
     }
 }
 
@@ -41,11 +40,11 @@ fn form(b: &[u8], n: usize, s: Scheme) {
     let operations = c.operations;
     let p = Parameter(case::one_at(b, 1));
     let code = values::code(case::one_at(b, 2));
-    print::number(accepted::type_at(types, p).byte() as u64);
-    print::number(accepted::last_group(operations, n) as u64);
+    print::byte(accepted::type_at(types, p).byte());
+    print::byte(accepted::last_group(operations, n));
     print::flag(accepted::creatable(tests, operations, n, p));
     print::flag(accepted::destroyable(operations, n, p));
-    print::number(accepted::group_of(code) as u64);
+    print::byte(accepted::group_of(code));
     print::flag(accepted::is_create(code));
 }
 
@@ -63,7 +62,6 @@ pub(crate) fn task(case: &[u8], s: Scheme, th: Things, cells: &[u64]) {
         61 => command(at, s),
         62 => count(s, th, cells),
         63 => form(b, at, s),
-        64 => seats(at, case::two_at(b, 0), th),
-        _ => plans::locate(b, at, s, th),
+        _ => seats(at, case::two_at(b, 0), th),
     }
 }

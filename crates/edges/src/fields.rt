@@ -20,8 +20,8 @@ fn read_request(b: &[u8], at: usize) {
     let q = read.request;
     let ids = q.ids;
     request_reading(answer);
-    print::number(q.command as u64);
-    print::number(q.count as u64);
+    print::byte(q.command);
+    print::byte(q.count);
     print::number(sum::ids(&ids));
 }
 
@@ -43,9 +43,9 @@ fn body(b: &[u8], start: usize) {
 }
 
 fn limited(answer: Field) {
-    print::number(answer.number() as u64);
+    print::byte(answer.number());
     if let Field::Value(v) = answer {
-        print::number(v as u64);
+        print::byte(v);
     }
 }
 

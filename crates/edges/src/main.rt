@@ -27,8 +27,7 @@ ghost use lib.ListN.{length};
 fn ask(case: &[u8], s: Scheme, th: Things, cells: &[u64], out: &mut [u8]) {
     match case::one_at(case, 0) / 10 {
         3 => outputs::task(case, s, th, cells, out),
-        4 => stores::task(case, out),
-        5 => texts::task(case, out),
+        4 | 5 => stores::task(case, out),
         6 => checks::task(case, s, th, cells),
         7 => fields::task(case),
         8 => sets::task(case),

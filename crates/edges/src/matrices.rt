@@ -1,8 +1,7 @@
-// The tasks 10 to 17, which change the things or are lent the cells: a matrix is read, set, copied or converted, and a request planned.
+// The tasks 10 to 16, which change the things or are lent the cells: a matrix is read, set, copied or converted, and a request planned.
 use crate::case;
 use crate::plans;
 use crate::print;
-use crate::values;
 use matrix_bytes::MatrixAnswer;
 use model::Scheme;
 use model::Things;
@@ -27,31 +26,33 @@ fn convert(s: Scheme, th: Things, cells: &mut [u64]) -> Things {
     th
 }
 
-fn copy(b: &[u8], th: Things, cells: &mut [u64]) -> Things {
+// To the cells from a place on.
+fn copy(b: &[u8], at: usize, th: Things, cells: &mut [u64]) -> Things {
     let from = case::numbers(b);
     let n = b.len() / 8 % 5;
-    things::copy_cells(cells, &from[0..n]);
+    let k = case::least(at, cells.len());
+    things::copy_cells(&mut cells[k..], &from[0..n]);
     th
 }
 
 // The tasks that need no cells.
 fn alone(task: u8, b: &[u8], at: usize, s: Scheme, th: Things) -> Things {
     match task {
-        15 => things::no_things(),
-        16 => things::put_thing(th, at, case::two_at(b, 0), ThingType(case::one_at(b, 2))),
-        _ => plans::all(b, at, s, th),
+        14 => things::no_things(),
+        15 => plans::task(b, at, s, th),
+        _ => things::put_thing(th, at, case::two_at(b, 0), ThingType(case::one_at(b, 2))),
     }
 }
 
 pub(crate) fn task(case: &[u8], s: Scheme, th: Things, cells: &mut [u64]) -> Things {
     let b = case::bytes(case);
+    let at = case::position(case);
     let task = case::one_at(case, 0);
     match task {
         10 => read(false, b, s, th, cells),
         11 => read(true, b, s, th, cells),
-        12 => values::cell(b, th, cells),
+        12 => copy(b, at, th, cells),
         13 => convert(s, th, cells),
-        14 => copy(b, th, cells),
-        _ => alone(task, b, case::position(case), s, th),
+        _ => alone(task, b, at, s, th),
     }
 }

@@ -12,8 +12,8 @@ fn scheme_head(b: &[u8], at: usize) {
     let answer = command_bytes::read_head(b, at);
     print::pair(answer.number(), answer.at());
     if let command_bytes::HeadAt::Good { head, next } = answer {
-        print::number(head.rights as u64);
-        print::number(head.types as u64);
+        print::byte(head.rights);
+        print::byte(head.types);
         print::number(head.subjects.0 as u64);
         print::pair(head.count, next);
     }

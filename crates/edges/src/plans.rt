@@ -1,4 +1,4 @@
-// Where a request's things sit and what its creates and destroys make of them: the tasks 65 and 17.
+// The task 15: where a request's things sit, and what its creates and destroys make of them, whose spots are given.
 use crate::case;
 use crate::print;
 use crate::sum;
@@ -19,33 +19,31 @@ fn verdict(answer: Verdict) {
 fn told(answer: Verdict, spots: [u8; 8], at: usize) {
     verdict(answer);
     print::number(sum::bytes(&spots));
-    print::number(plan::seat_at(spots, Parameter((at % 256) as u8)) as u64);
+    print::byte(plan::seat_at(spots, Parameter((at % 256) as u8)));
 }
 
-// The command and the ids of a request, and the parameter whose spot is told.
-pub(crate) fn locate(b: &[u8], at: usize, s: Scheme, th: Things) {
-    let c = values::command_at(s, case::one_at(b, 0) as usize);
-    let types = c.parameters;
-    let operations = c.operations;
-    let ids = case::ids(b);
-    let n = b.len() / 2 % 11;
-    let found = plan::locate(th, types, operations, &ids[0..n]);
-    let answer = found.answer;
-    let spots = found.spots;
-    told(answer, spots, at);
+// Before the request stand two spots: the first is that of every parameter but the second.
+fn spots(b: &[u8]) -> [u8; 8] {
+    let mut spots = [case::one_at(b, 0); 8];
+    spots[1] = case::one_at(b, 1);
+    spots
 }
 
-// The same with the eight spots before the request; the things are then those that the plan leaves.
-pub(crate) fn all(b: &[u8], at: usize, s: Scheme, th: Things) -> Things {
-    let q = records::body(b, 8, 65536);
+// The things are then those that the plan leaves.
+pub(crate) fn task(b: &[u8], at: usize, s: Scheme, th: Things) -> Things {
+    let q = records::body(b, 2, 65536);
     let c = values::command_at(s, case::one_at(q, 0) as usize);
     let types = c.parameters;
     let operations = c.operations;
     let ids = case::ids(q);
     let n = q.len() / 2 % 11;
-    let planned = plan::plan_all(th, case::spots(b), types, &ids[0..n], operations);
+    let located = plan::locate(th, types, operations, &ids[0..n]);
+    let found = located.answer;
+    let seats = located.spots;
+    told(found, seats, at);
+    let planned = plan::plan_all(th, spots(b), types, &ids[0..n], operations);
     let answer = planned.answer;
-    let spots = planned.spots;
-    told(answer, spots, at);
+    let to = planned.spots;
+    told(answer, to, at);
     planned.things
 }

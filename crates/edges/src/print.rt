@@ -23,8 +23,12 @@ pub(crate) fn numbers(list: &[u64]) {
     }
 }
 
-pub(crate) fn pair(x: u8, y: usize) {
+pub(crate) fn byte(x: u8) {
     number(x as u64);
+}
+
+pub(crate) fn pair(x: u8, y: usize) {
+    byte(x);
     number(y as u64);
 }
 
@@ -50,7 +54,7 @@ pub(crate) fn record(answer: RecordAnswer) {
 
 // The answer of a writing, and the sum of the buffer that it was lent.
 pub(crate) fn written(answer: Writing, out: &[u8]) {
-    number(answer.number() as u64);
+    byte(answer.number());
     if let Writing::Done { next } = answer {
         number(next as u64);
     }
@@ -60,6 +64,6 @@ pub(crate) fn written(answer: Writing, out: &[u8]) {
 pub(crate) fn conversion(answer: Conversion) {
     match answer {
         Conversion::Done => number(0),
-        Conversion::Refused(x) => number(x as u64),
+        Conversion::Refused(x) => byte(x),
     }
 }

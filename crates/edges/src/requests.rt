@@ -12,14 +12,14 @@ fn request(b: &[u8], s: Scheme, th: Things, cells: &mut [u64]) -> Things {
     let n = b.len() / 2 % 11;
     let stepped = engine::request(s, th, cells, case::one_at(b, 0), &ids[0..n]);
     let answer = stepped.answer;
-    print::number(answer.number as u64);
+    print::byte(answer.number);
     stepped.things
 }
 
 // How many requests were answered; with a record that can't be read its position too.
 fn told(ran: Ran) -> Things {
     let answer = ran.answer;
-    print::number(answer.number() as u64);
+    print::byte(answer.number());
     match answer {
         RunAnswer::Whole { count } => print::number(count as u64),
         RunAnswer::Bad {

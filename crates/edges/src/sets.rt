@@ -17,7 +17,7 @@ fn rights_of(b: &[u8]) {
     let set = RightSet(case::eight_at(b, 0));
     let right = Right(case::one_at(b, 8));
     let n = case::one_at(b, 9);
-    print::number(right.partner(n).byte() as u64);
+    print::byte(right.partner(n).byte());
     print_set(right.single());
     print_set(RightSet::all(n));
     print::flag(set.has(right));

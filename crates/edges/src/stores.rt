@@ -1,6 +1,7 @@
-// The tasks 40 to 46: a request, a record or a number of some bytes stored at a position of a lent buffer.
+// The tasks 40 to 53: a request, a record, a number of some bytes or text stored at a position of a lent buffer.
 use crate::case;
 use crate::print;
+use crate::texts;
 use records::Writing;
 
 fn write_request(b: &[u8], at: usize, out: &mut [u8]) -> Writing {
@@ -37,7 +38,10 @@ fn store(task: u8, b: &[u8], at: usize, out: &mut [u8]) -> Writing {
         40 => write_request(b, at, out),
         41 => write_record(b, at, out),
         42 => write_zeros(b, at, out),
-        _ => put(task, b, at, out),
+        43..=46 => put(task, b, at, out),
+        _ => Writing::Done {
+            next: texts::put(task, b, at, out),
+        },
     }
 }
 

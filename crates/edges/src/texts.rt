@@ -1,7 +1,5 @@
 // The tasks 50 to 53: text, numbers and lines of numbers, put at a position of a lent buffer.
 use crate::case;
-use crate::print;
-use records::Writing;
 
 fn line(b: &[u8], at: usize, out: &mut [u8]) -> usize {
     let numbers = case::numbers(b);
@@ -9,21 +7,11 @@ fn line(b: &[u8], at: usize, out: &mut [u8]) -> usize {
     lines::put_line(out, at, &numbers[0..n])
 }
 
-fn put(task: u8, b: &[u8], at: usize, out: &mut [u8]) -> usize {
+pub(crate) fn put(task: u8, b: &[u8], at: usize, out: &mut [u8]) -> usize {
     match task {
         50 => lines::put_text(out, at, b),
         51 => lines::put_decimal(out, at, case::eight_at(b, 0)),
         52 => lines::put_number(out, at, case::eight_at(b, 0), case::one_at(b, 8)),
         _ => line(b, at, out),
     }
-}
-
-pub(crate) fn task(case: &[u8], out: &mut [u8]) {
-    let next = put(
-        case::one_at(case, 0),
-        case::bytes(case),
-        case::position(case),
-        out,
-    );
-    print::written(Writing::Done { next }, out);
 }

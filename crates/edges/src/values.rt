@@ -1,5 +1,4 @@
-// Values handed in as no reading gives them: a scheme's head and single places of its arrays, and cells, set to anything.
-use crate::case::eight_at;
+// Values handed in as no reading gives them: a scheme's head and single places of its arrays, set to anything.
 use crate::case::one_at;
 use crate::case::two_at;
 use model::Code;
@@ -8,7 +7,6 @@ use model::Head;
 use model::Operation;
 use model::Operations;
 use model::Scheme;
-use model::Things;
 use rights::Parameter;
 use rights::Right;
 use rights::TypeSet;
@@ -80,14 +78,4 @@ pub(crate) fn with_command(s: Scheme, b: &[u8], c: Command) -> Scheme {
 
 pub(crate) fn commands(b: &[u8], s: Scheme) -> Scheme {
     with_command(s, b, command(b, command_at(s, one_at(b, 0) as usize)))
-}
-
-// ---- a matrix
-
-pub(crate) fn cell(b: &[u8], th: Things, cells: &mut [u64]) -> Things {
-    let k = two_at(b, 0) as usize;
-    if k < cells.len() {
-        cells[k] = eight_at(b, 2);
-    }
-    th
 }

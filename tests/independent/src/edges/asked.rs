@@ -1,11 +1,9 @@
 //! What the functions say that store nothing: checks and totals, what is looked up in a command and among the things, sets and numbers.
 
 use super::at_position;
-use super::planned::located;
 use super::said::Said;
 use super::seats::Seats;
-use super::sums;
-use super::tasks::{Ask, Task};
+use super::tasks::Task;
 use super::values::{names, CommandValue, SchemeValue};
 use crate::matrix::all_rights;
 use crate::scheme::{group, is_subject_type};
@@ -37,15 +35,6 @@ pub fn say(task: &Task, scheme: &SchemeValue, seats: &Seats, lent: usize) -> Sai
         Task::Seats { first, id } => Said::default()
             .value("things::seat_in", seats.seat_in(*first, *id))
             .value("things::seat_of", seats.seat_in(u64::MAX, *id)),
-        Task::Locate { ask, parameter } => {
-            let Ask { command, ids } = ask;
-            let found = located(seats, &scheme.commands[usize::from(*command)], ids);
-            spots(
-                "plan::locate",
-                found.map_err(|number| (number, 0)),
-                *parameter,
-            )
-        }
         Task::At(at) => at_position::say(at, &scheme.head(), seats),
         _ => say_of_numbers(task),
     }
@@ -112,18 +101,6 @@ fn form(command: &CommandValue, operations: u64, parameter: u8, code: u8) -> Sai
         .flag("accepted::destroyable", !names(before, 4, parameter))
         .value("accepted::group_of", group(code))
         .flag("accepted::is_create", code == 3)
-}
-
-/// The number and the operation's place; then all spots, zeros where there is a fault, and that of a parameter, 0 for one that no command has.
-pub fn spots(function: &'static str, found: Result<[u8; 8], (u8, u8)>, parameter: u8) -> Said {
-    let (number, place) = found.err().unwrap_or((0, 0));
-    let spots = found.unwrap_or([0; 8]);
-    let spot = spots.get(usize::from(parameter)).copied().unwrap_or(0);
-    Said::default()
-        .gave(function, number)
-        .word(place)
-        .word(sums::bytes(&spots))
-        .value("plan::seat_at", spot)
 }
 
 /// A right of number 64 or above is in no set, and there are no more than 64 of n rights.

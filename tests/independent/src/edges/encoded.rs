@@ -46,14 +46,11 @@ impl Task {
         match self {
             Task::ReadMatrix(bytes) => (10, bytes.clone()),
             Task::ReadMatrixByHead(bytes) => (11, bytes.clone()),
-            Task::SetCell { place, rights } => {
-                (12, behind(&place.to_le_bytes(), &rights.to_le_bytes()))
-            }
+            Task::CopyCells { sets, .. } => (12, eights(sets)),
             Task::ConvertedCells => (13, vec![]),
-            Task::CopyCells(sets) => (14, eights(sets)),
-            Task::NoThings => (15, vec![]),
+            Task::NoThings => (14, vec![]),
+            Task::Plan { ask, spots, .. } => (15, behind(spots, &ask.bytes())),
             Task::PutThing { id, kind, .. } => (16, behind(&id.to_le_bytes(), &[*kind])),
-            Task::Plan { ask, spots, .. } => (17, behind(spots, &ask.bytes())),
             _ => self.asking(),
         }
     }
@@ -71,7 +68,6 @@ impl Task {
                 ..
             } => (63, vec![*command, *parameter, *code]),
             Task::Seats { id, .. } => (64, id.to_le_bytes().to_vec()),
-            Task::Locate { ask, .. } => (65, ask.bytes()),
             Task::CountRequests(list) => (72, list.clone()),
             Task::Rights { set, right, n } => (80, behind(&set.to_le_bytes(), &[*right, *n])),
             Task::Types { set, kind } => (81, behind(&set.to_le_bytes(), &[*kind])),
@@ -99,7 +95,8 @@ impl Task {
             Task::ReadCommand { at, .. } => *at,
             Task::CommandAccepted(command) => *command,
             Task::PutThing { seat, .. } => *seat,
-            Task::Plan { parameter, .. } | Task::Locate { parameter, .. } => (*parameter).into(),
+            Task::CopyCells { place, .. } => *place,
+            Task::Plan { parameter, .. } => (*parameter).into(),
             Task::Form { operations, .. } => *operations,
             Task::Seats { first, .. } => *first,
             _ => 0,

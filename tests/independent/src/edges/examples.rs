@@ -83,3 +83,8 @@ pub fn key_scheme(label: &str) -> Case {
 pub fn key_matrix(label: &str) -> Case {
     case(label, Task::ReadMatrix(KEY_MATRIX.to_vec()))
 }
+
+pub fn set_cell(place: u64, rights: u64) -> Task {
+    let sets = vec![rights];
+    Task::CopyCells { place, sets }
+}

@@ -2,7 +2,7 @@
 //! made so far.
 
 use super::asked;
-use super::planned::planned;
+use super::planned::{located, planned, Spots};
 use super::said::{Given, Said};
 use super::seats::{Seats, CELLS};
 use super::sums;
@@ -93,16 +93,12 @@ impl State {
                 let answer = self.read_matrix(bytes, self.head(), lent);
                 said.reading("matrix_bytes::read_matrix_by_head", answer)
             }
-            Task::SetCell { place, rights } => {
-                self.seats.set_cell((*place).into(), *rights);
-                said
-            }
             Task::ConvertedCells => {
                 let number = self.convert_cells(lent).err().unwrap_or(0);
                 said.gave("convert::converted_cells", number)
             }
-            Task::CopyCells(sets) => {
-                self.seats.copy_cells(sets, lent);
+            Task::CopyCells { place, sets } => {
+                self.seats.copy_cells(*place, sets, lent);
                 said.through("things::copy_cells", 0)
             }
             Task::NoThings => {
@@ -117,7 +113,7 @@ impl State {
                 ask,
                 spots,
                 parameter,
-            } => asked::spots("plan::plan_all", self.plan(ask, *spots), *parameter),
+            } => self.plan(ask, *spots, *parameter),
             _ => self.say_of_requests(task, lent),
         }
     }
@@ -254,11 +250,19 @@ impl State {
         Ok(write_matrix(&converted, &convert_scheme(&scheme)?))
     }
 
-    fn plan(&mut self, ask: &Ask, spots: [u8; 8]) -> Result<[u8; 8], (u8, u8)> {
+    /// Where the request's things sit, then what is planned with other spots.
+    fn plan(&mut self, ask: &Ask, [first, second]: [u8; 2], parameter: u8) -> Said {
         let command = &self.scheme.commands[usize::from(ask.command)];
-        let (seats, spots) = planned(&self.seats, command, &ask.ids, spots)?;
-        self.seats = seats;
-        Ok(spots)
+        let found = located(&self.seats, command, &ask.ids).map_err(|number| (number, 0));
+        let mut spots = [first; 8];
+        spots[1] = second;
+        let planned = planned(&self.seats, command, &ask.ids, spots);
+        let planned = planned.map(|(seats, spots)| {
+            self.seats = seats;
+            spots
+        });
+        let said = self::spots(Said::default(), "plan::locate", found, parameter);
+        self::spots(said, "plan::plan_all", planned, parameter)
     }
 
     fn request(&mut self, ask: &Ask, lent: usize) -> Result<u8, u8> {
@@ -310,6 +314,22 @@ fn ended(said: Said, function: &'static str, ran: (Vec<u8>, Option<Refusal>)) ->
 fn run_answer(said: Said, function: &'static str, number: u8) -> Said {
     let said = said.through(function, number);
     said.gave("engine::RunAnswer::number", number)
+}
+
+/// The number and the operation's place; then all spots, zeros where there is a fault, and that of a parameter, 0 for one that no command has.
+fn spots(
+    said: Said,
+    function: &'static str,
+    found: Result<Spots, (u8, u8)>,
+    parameter: u8,
+) -> Said {
+    let (number, place) = found.err().unwrap_or((0, 0));
+    let spots = found.unwrap_or([0; 8]);
+    let spot = spots.get(usize::from(parameter)).copied().unwrap_or(0);
+    said.gave(function, number)
+        .word(place)
+        .word(sums::bytes(&spots))
+        .value("plan::seat_at", spot)
 }
 
 /// The requests that can be read, and the refusal of the record behind them, if there is one.

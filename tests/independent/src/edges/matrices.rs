@@ -1,6 +1,8 @@
 //! Matrices of the key example's scheme read, with single bytes changed; then its matrix written.
 
-use super::examples::{changed_rows, key_matrix, key_scheme, Row, KEY_MATRIX, KEY_SCHEME};
+use super::examples::{
+    changed_rows, key_matrix, key_scheme, set_cell, Row, KEY_MATRIX, KEY_SCHEME,
+};
 use super::seats::MOST_CELLS;
 use super::{case, Case, Task};
 use crate::matrix::read_matrix;
@@ -102,12 +104,9 @@ fn spoiled(label: &str) -> Vec<Case> {
         let task = Task::PutThing { seat, id, kind };
         case(format!("{label}-seat-{seat}"), task)
     };
-    let cell = |place, rights| {
-        let task = Task::SetCell { place, rights };
-        Case {
-            cells: MOST_CELLS as u16,
-            ..case(format!("{label}-cell-{place}"), task)
-        }
+    let cell = |place, rights| Case {
+        cells: MOST_CELLS as u16,
+        ..case(format!("{label}-cell-{place}"), set_cell(place, rights))
     };
     vec![
         thing(0, 77, 9),

@@ -12,67 +12,122 @@ const CREATE_TWO: u8 = 1;
 const DESTROY_TWO: u8 = 2;
 const REPLACE: u8 = 3;
 
+/// Spots where nobody sits.
+const PAST: [u8; 2] = [48, 255];
+
 pub fn cases() -> Vec<Case> {
     let makers = case("makers-to-plan", Task::ReadScheme(write_scheme(&makers())));
+    let rows = [LOCATES, CREATES, DESTROYS].concat();
     let mut cases = vec![makers];
-    cases.extend(locates());
+    cases.extend(rows.iter().flat_map(plan));
     cases.extend(spots());
-    cases.extend(creates());
-    cases.extend(destroys());
     cases.extend(counts());
-    cases.extend(rows());
+    cases.extend(rows_of_operations());
     cases
 }
 
-fn matrix(label: &str, count: u16) -> Case {
-    case(format!("plan-{label}"), Task::ReadMatrix(things(count)))
+/// How many things there are, a command and its ids, the spots of all parameters but the second and of the second, and the parameter whose spot is told.
+type Row = (&'static str, u16, u8, &'static [u16], [u8; 2], u8);
+
+/// The things before a plan, the plan, and the totals of what it leaves.
+fn plan(&(label, count, command, ids, spots, parameter): &Row) -> [Case; 3] {
+    let before = Task::ReadMatrix(things(count));
+    [
+        case(format!("plan-{label}-things"), before),
+        ask(label, command, ids, spots, parameter),
+        case(format!("plan-{label}-totals"), Task::Totals),
+    ]
 }
 
-fn locate(label: &str, command: u8, ids: &[u16], parameter: u8) -> Case {
+fn ask(label: &str, command: u8, ids: &[u16], spots: [u8; 2], parameter: u8) -> Case {
     let ids = ids.to_vec();
-    let ask = Ask { command, ids };
-    case(format!("locate-{label}"), Task::Locate { ask, parameter })
+    let task = Task::Plan {
+        ask: Ask { command, ids },
+        spots,
+        parameter,
+    };
+    case(format!("plan-{label}"), task)
 }
 
-/// A command, its ids, and the parameter whose spot is told. Of the things 1 to 9 the subjects, of type 0, are 3, 6 and 9.
-type Place = (&'static str, u8, &'static [u16], u8);
-
-const LOCATES: &[Place] = &[
-    ("1-2", DESTROY_TWO, &[1, 2], 1),
-    ("2-1", DESTROY_TWO, &[2, 1], 0),
-    ("8-8", DESTROY_TWO, &[8, 8], 1),
-    ("0-2", DESTROY_TWO, &[0, 2], 0),
-    ("1-0", DESTROY_TWO, &[1, 0], 0),
-    ("10-1", DESTROY_TWO, &[10, 1], 1),
-    ("1-10", DESTROY_TWO, &[1, 10], 0),
-    ("1-65535", DESTROY_TWO, &[1, 65_535], 0),
-    ("3-1", DESTROY_TWO, &[3, 1], 1),
-    ("1-3", DESTROY_TWO, &[1, 3], 0),
-    ("3-0", DESTROY_TWO, &[3, 0], 0),
-    ("0-3", DESTROY_TWO, &[0, 3], 0),
-    ("none", DESTROY_TWO, &[], 0),
-    ("one", DESTROY_TWO, &[8], 0),
-    ("one-wrong", DESTROY_TWO, &[3], 0),
-    ("three", DESTROY_TWO, &[7, 8, 0], 2),
-    ("ten", DESTROY_TWO, &[8, 7, 1, 2, 3, 4, 5, 6, 7, 8], 0),
-    ("new", CREATE_TWO, &[100, 101], 0),
-    ("new-same", CREATE_TWO, &[100, 100], 0),
-    ("new-used", CREATE_TWO, &[8, 9], 0),
-    ("new-0", CREATE_TWO, &[0, 5], 0),
-    ("new-second-0", CREATE_TWO, &[5, 0], 0),
-    ("new-then-8", REPLACE, &[300, 8], 1),
-    ("new-then-3", REPLACE, &[300, 3], 1),
-    ("new-then-11", REPLACE, &[300, 11], 1),
-    ("new-0-then-8", REPLACE, &[0, 8], 1),
-    ("new-0-then-3", REPLACE, &[0, 3], 1),
+/// Of the things 1 to 9 the subjects, of type 0, are 3, 6 and 9.
+const LOCATES: &[Row] = &[
+    ("of-1-2", 9, DESTROY_TWO, &[1, 2], PAST, 1),
+    ("of-2-1", 9, DESTROY_TWO, &[2, 1], PAST, 0),
+    ("of-8-8", 9, DESTROY_TWO, &[8, 8], PAST, 1),
+    ("of-0-2", 9, DESTROY_TWO, &[0, 2], PAST, 0),
+    ("of-1-0", 9, DESTROY_TWO, &[1, 0], PAST, 0),
+    ("of-10-1", 9, DESTROY_TWO, &[10, 1], PAST, 1),
+    ("of-1-10", 9, DESTROY_TWO, &[1, 10], PAST, 0),
+    ("of-1-65535", 9, DESTROY_TWO, &[1, 65_535], PAST, 0),
+    ("of-3-1", 9, DESTROY_TWO, &[3, 1], PAST, 1),
+    ("of-1-3", 9, DESTROY_TWO, &[1, 3], PAST, 0),
+    ("of-3-0", 9, DESTROY_TWO, &[3, 0], PAST, 0),
+    ("of-0-3", 9, DESTROY_TWO, &[0, 3], PAST, 0),
+    ("of-none", 9, DESTROY_TWO, &[], [0, 0], 0),
+    ("of-one", 9, DESTROY_TWO, &[8], [7, 7], 0),
+    ("of-one-wrong", 9, DESTROY_TWO, &[3], [2, 9], 0),
+    ("of-three", 9, DESTROY_TWO, &[7, 8, 0], [6, 7], 2),
+    (
+        "of-ten",
+        9,
+        DESTROY_TWO,
+        &[8, 7, 1, 2, 3, 4, 5, 6, 7, 8],
+        PAST,
+        0,
+    ),
+    ("of-new", 9, CREATE_TWO, &[100, 101], PAST, 0),
+    ("of-new-0", 9, CREATE_TWO, &[0, 5], PAST, 0),
+    ("of-new-second-0", 9, CREATE_TWO, &[5, 0], PAST, 0),
+    ("of-new-then-8", 9, REPLACE, &[300, 8], [0, 7], 1),
+    ("of-new-then-3", 9, REPLACE, &[300, 3], [0, 2], 1),
+    ("of-new-then-11", 9, REPLACE, &[300, 11], [0, 9], 1),
+    ("of-new-0-then-8", 9, REPLACE, &[0, 8], [0, 7], 1),
+    ("of-new-0-then-3", 9, REPLACE, &[0, 3], [0, 2], 1),
 ];
 
-fn locates() -> Vec<Case> {
-    let ask = |&(label, command, ids, parameter): &Place| locate(label, command, ids, parameter);
-    let mut cases = vec![matrix("things-9", 9)];
-    cases.extend(LOCATES.iter().map(ask));
-    cases
-}
+const CREATES: &[Row] = &[
+    ("create", 9, CREATE, &[100], [0, 0], 0),
+    ("create-spots", 9, CREATE, &[100], [7, 8], 1),
+    ("create-first", 0, CREATE, &[1], [7, 8], 0),
+    ("create-at-47", 47, CREATE, &[65_535], [0, 0], 0),
+    ("create-at-48", 48, CREATE, &[100], [7, 8], 0),
+    ("create-used", 9, CREATE, &[7], [7, 8], 0),
+    ("create-used-at-48", 48, CREATE, &[48], [0, 0], 0),
+    ("two", 9, CREATE_TWO, &[100, 101], [7, 8], 1),
+    ("two-other-spots", 9, CREATE_TWO, &[100, 101], [7, 8], 2),
+    ("two-at-46", 46, CREATE_TWO, &[100, 101], [0, 0], 1),
+    ("two-at-47", 47, CREATE_TWO, &[100, 101], [7, 8], 1),
+    ("two-at-48", 48, CREATE_TWO, &[100, 101], [0, 0], 1),
+    ("two-same", 9, CREATE_TWO, &[100, 100], [0, 0], 0),
+    ("two-same-at-47", 47, CREATE_TWO, &[100, 100], [0, 0], 0),
+    ("two-first-used", 9, CREATE_TWO, &[9, 100], [0, 0], 0),
+    ("two-second-used", 9, CREATE_TWO, &[100, 9], [0, 0], 0),
+    (
+        "two-second-used-at-47",
+        47,
+        CREATE_TWO,
+        &[100, 9],
+        [0, 0],
+        0,
+    ),
+    ("create-of-more-ids", 9, CREATE, &[100; 10], [0, 0], 0),
+];
+
+const DESTROYS: &[Row] = &[
+    ("destroy", 9, DESTROY_TWO, &[1, 4], [0, 3], 1),
+    ("destroy-last", 48, DESTROY_TWO, &[48, 47], [47, 46], 0),
+    ("destroy-same", 9, DESTROY_TWO, &[2, 2], [1, 1], 1),
+    ("destroy-turned", 9, DESTROY_TWO, &[1, 4], [3, 0], 1),
+    ("destroy-second-wrong", 9, DESTROY_TWO, &[1, 4], [0, 4], 1),
+    ("destroy-free-seat", 9, DESTROY_TWO, &[1, 4], [0, 9], 1),
+    ("destroy-past", 9, DESTROY_TWO, &[1, 4], [48, 3], 0),
+    ("destroy-second-past", 9, DESTROY_TWO, &[1, 4], [0, 255], 1),
+    ("replace", 9, REPLACE, &[300, 8], [0, 7], 0),
+    ("replace-at-47", 47, REPLACE, &[300, 8], [0, 7], 1),
+    ("replace-at-48", 48, REPLACE, &[300, 8], [0, 7], 1),
+    ("replace-used", 9, REPLACE, &[8, 8], [0, 7], 1),
+    ("replace-gone", 9, REPLACE, &[300, 8], [0, 6], 1),
+];
 
 /// At the last seat; the spot of each parameter, and of those that no command has.
 fn spots() -> Vec<Case> {
@@ -82,100 +137,19 @@ fn spots() -> Vec<Case> {
         kind: 1,
     };
     let mut cases = vec![
+        case("plan-things-9", Task::ReadMatrix(things(9))),
         case("plan-at-47", put),
-        locate("last", DESTROY_TWO, &[65_535, 1], 0),
-        locate("last-second", DESTROY_TWO, &[1, 65_535], 1),
+        ask("of-last", DESTROY_TWO, &[65_535, 1], PAST, 0),
+        ask("of-last-second", DESTROY_TWO, &[1, 65_535], PAST, 1),
     ];
     for parameter in [0, 1, 2, 3, 7, 8, 9, 255] {
         let label = format!("spot-{parameter}");
-        cases.push(locate(&label, DESTROY_TWO, &[65_535, 8], parameter));
+        cases.push(ask(&label, DESTROY_TWO, &[65_535, 8], PAST, parameter));
+        let label = format!("spot-{parameter}-given");
+        let id = 200 + u16::from(parameter);
+        cases.push(ask(&label, CREATE, &[id], [5, 6], parameter));
     }
     cases
-}
-
-/// The things before a plan, the plan, and the totals of what it leaves.
-fn plan(
-    label: &str,
-    count: u16,
-    command: u8,
-    ids: &[u16],
-    spots: [u8; 8],
-    parameter: u8,
-) -> [Case; 3] {
-    let ids = ids.to_vec();
-    let task = Task::Plan {
-        ask: Ask { command, ids },
-        spots,
-        parameter,
-    };
-    [
-        matrix(&format!("{label}-things"), count),
-        case(format!("plan-{label}"), task),
-        case(format!("plan-{label}-totals"), Task::Totals),
-    ]
-}
-
-/// The spots of two parameters' things.
-fn two(first: u8, second: u8) -> [u8; 8] {
-    [first, second, 0, 0, 0, 0, 0, 0]
-}
-
-fn creates() -> Vec<Case> {
-    let none = [0; 8];
-    let other = [9, 8, 7, 6, 5, 4, 3, 2];
-    [
-        plan("create", 9, CREATE, &[100], none, 0),
-        plan("create-spots", 9, CREATE, &[100], other, 1),
-        plan("create-first", 0, CREATE, &[1], other, 0),
-        plan("create-at-47", 47, CREATE, &[65_535], none, 0),
-        plan("create-at-48", 48, CREATE, &[100], other, 0),
-        plan("create-used", 9, CREATE, &[7], other, 0),
-        plan("create-used-at-48", 48, CREATE, &[48], none, 0),
-        plan("two", 9, CREATE_TWO, &[100, 101], other, 1),
-        plan("two-at-46", 46, CREATE_TWO, &[100, 101], none, 1),
-        plan("two-at-47", 47, CREATE_TWO, &[100, 101], other, 1),
-        plan("two-at-48", 48, CREATE_TWO, &[100, 101], none, 1),
-        plan("two-same", 9, CREATE_TWO, &[100, 100], none, 0),
-        plan("two-same-at-47", 47, CREATE_TWO, &[100, 100], none, 0),
-        plan("two-first-used", 9, CREATE_TWO, &[9, 100], none, 0),
-        plan("two-second-used", 9, CREATE_TWO, &[100, 9], none, 0),
-        plan("two-second-used-at-47", 47, CREATE_TWO, &[100, 9], none, 0),
-        plan("create-of-more-ids", 9, CREATE, &[100; 10], none, 0),
-    ]
-    .concat()
-}
-
-fn destroys() -> Vec<Case> {
-    [
-        plan("destroy", 9, DESTROY_TWO, &[1, 4], two(0, 3), 1),
-        plan("destroy-last", 48, DESTROY_TWO, &[48, 47], two(47, 46), 0),
-        plan("destroy-same", 9, DESTROY_TWO, &[2, 2], two(1, 1), 1),
-        plan("destroy-turned", 9, DESTROY_TWO, &[1, 4], two(3, 0), 1),
-        plan(
-            "destroy-second-wrong",
-            9,
-            DESTROY_TWO,
-            &[1, 4],
-            two(0, 4),
-            1,
-        ),
-        plan("destroy-free-seat", 9, DESTROY_TWO, &[1, 4], two(0, 9), 1),
-        plan("destroy-past", 9, DESTROY_TWO, &[1, 4], two(48, 3), 0),
-        plan(
-            "destroy-second-past",
-            9,
-            DESTROY_TWO,
-            &[1, 4],
-            two(0, 255),
-            1,
-        ),
-        plan("replace", 9, REPLACE, &[300, 8], two(0, 7), 0),
-        plan("replace-at-47", 47, REPLACE, &[300, 8], two(0, 7), 1),
-        plan("replace-at-48", 48, REPLACE, &[300, 8], two(0, 7), 1),
-        plan("replace-used", 9, REPLACE, &[8, 8], two(0, 7), 1),
-        plan("replace-gone", 9, REPLACE, &[300, 8], two(0, 6), 1),
-    ]
-    .concat()
 }
 
 /// How many parameters, tests and operations a command has, and one of its operations.
@@ -189,40 +163,42 @@ fn set(label: &str, command: u8, counts: [u8; 3], place: u8, operation: [u8; 4])
     vec![case(format!("plan-set-{label}"), Task::SetCommand(set))]
 }
 
+fn planned(row: Row) -> Vec<Case> {
+    plan(&row).to_vec()
+}
+
 /// Counts above the places that there are, and of none.
 fn counts() -> Vec<Case> {
-    let ten = [8, 7, 3, 6, 9, 3, 6, 9, 1, 2];
-    let located = |label: &str, command, ids: &[u16], at| vec![locate(label, command, ids, at)];
+    const EIGHT: &[u16] = &[8, 7, 3, 6, 9, 3, 6, 9];
+    const WRONG: &[u16] = &[8, 7, 3, 6, 9, 3, 6, 1];
+    const TEN: &[u16] = &[8, 7, 3, 6, 9, 3, 6, 9, 1, 2];
     [
-        vec![matrix("things-of-counts", 9)],
         set("no-operations", CREATE, [1, 0, 0], 255, [0; 4]),
-        located("not-new", CREATE, &[100], 0),
-        plan("no-operations", 9, CREATE, &[100], [0; 8], 0).to_vec(),
+        planned(("not-new", 9, CREATE, &[100], [0, 0], 0)),
         set("create-last", CREATE, [1, 0, 255], 31, [3, 0, 0, 0]),
-        located("new-last", CREATE, &[100], 0),
-        plan("create-twice", 9, CREATE, &[100], [0; 8], 0).to_vec(),
+        planned(("new-last", 9, CREATE, &[100], [0, 0], 0)),
         set("parameters-8", DESTROY_TWO, [8, 0, 2], 255, [0; 4]),
-        located("eight", DESTROY_TWO, &ten[..8], 7),
-        located("eight-wrong", DESTROY_TWO, &[8, 7, 3, 6, 9, 3, 6, 1], 7),
+        planned(("eight", 9, DESTROY_TWO, EIGHT, PAST, 7)),
+        planned(("eight-wrong", 9, DESTROY_TWO, WRONG, PAST, 7)),
         set("parameters-255", DESTROY_TWO, [255, 0, 2], 255, [0; 4]),
-        located("ten-of-eight", DESTROY_TWO, &ten, 7),
+        planned(("ten-of-eight", 9, DESTROY_TWO, TEN, PAST, 7)),
     ]
     .concat()
 }
 
 /// A fault at the last place; a parameter that is created and destroyed; parameters that no command has.
-fn rows() -> Vec<Case> {
-    let nine = [70, 71, 72, 73, 74, 75, 76, 77, 78];
+fn rows_of_operations() -> Vec<Case> {
+    const NINE: &[u16] = &[70, 71, 72, 73, 74, 75, 76, 77, 78];
     [
         set("destroy-last", DESTROY_TWO, [2, 0, 32], 31, [4, 0, 0, 0]),
-        plan("gone-at-31", 9, DESTROY_TWO, &[1, 2], two(0, 1), 0).to_vec(),
+        planned(("gone-at-31", 9, DESTROY_TWO, &[1, 2], [0, 1], 0)),
         set("create-and-destroy", CREATE, [1, 0, 2], 1, [4, 0, 0, 0]),
-        plan("create-and-destroy", 9, CREATE, &[100], [5; 8], 0).to_vec(),
-        plan("and-destroy-at-48", 48, CREATE, &[100], [5; 8], 0).to_vec(),
+        planned(("create-and-destroy", 9, CREATE, &[100], [5, 5], 0)),
+        planned(("and-destroy-at-48", 48, CREATE, &[100], [5, 5], 0)),
         set("destroy-255", CREATE, [1, 0, 1], 0, [4, 0, 255, 0]),
-        plan("destroy-255", 9, CREATE, &[1], [5; 8], 255).to_vec(),
+        planned(("destroy-255", 9, CREATE, &[1], [5, 5], 255)),
         set("create-8", CREATE, [1, 0, 1], 0, [3, 0, 8, 0]),
-        plan("create-8", 9, CREATE, &nine, [5; 8], 8).to_vec(),
+        planned(("create-8", 9, CREATE, NINE, [5, 5], 8)),
     ]
     .concat()
 }

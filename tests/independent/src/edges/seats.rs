@@ -67,15 +67,12 @@ impl Seats {
         self.types = [0; SEATS];
     }
 
-    /// As many sets as there are cells lent.
-    pub fn copy_cells(&mut self, sets: &[u64], lent: usize) {
-        for (cell, &set) in self.cells[..lent].iter_mut().zip(sets) {
+    /// From a place on, as many as there are sets and lent cells.
+    pub fn copy_cells(&mut self, place: u64, sets: &[u64], lent: usize) {
+        let place = usize::try_from(place).unwrap_or(usize::MAX);
+        for (cell, &set) in self.cells[..lent].iter_mut().skip(place).zip(sets) {
             *cell = set;
         }
-    }
-
-    pub fn set_cell(&mut self, place: usize, rights: u64) {
-        self.cells[place] = rights;
     }
 
     /// As a reading leaves it: things by rising id, from the first seat on.

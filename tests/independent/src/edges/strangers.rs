@@ -1,7 +1,7 @@
 //! 27, before every other check and with room for all that could be stored: schemes and matrices that no reading gives, each handed to every entry
 //! point that takes it. What would be carried out is carried out on their neighbours, which a reading does give.
 
-use super::examples::{KEY_SCHEME, LOAD, RETIRE};
+use super::examples::{set_cell, KEY_SCHEME, LOAD, RETIRE};
 use super::tasks::{Ask, SetCommand};
 use super::{case, Case, Task};
 use crate::matrix::{write_matrix, Matrix};
@@ -332,7 +332,7 @@ fn asked_of_matrix(label: &str, cells: u16) -> Vec<Case> {
 /// Things 5, 9 and 12 sit at 0, 1 and 2. A cell's place is 48 times its row's seat, and its column's seat.
 fn matrices() -> Vec<Stranger> {
     let thing = |seat, id, kind| Task::PutThing { seat, id, kind };
-    let cell = |place, rights| Task::SetCell { place, rights };
+    let cell = set_cell;
     let one = |label: &str, task: Task| stranger(label, vec![task]);
     vec![
         one("thing-at-3", thing(3, 20, 2)),
@@ -378,7 +378,7 @@ fn before_room() -> Vec<Case> {
     ];
     let strangers = [
         ("no-room-scheme", Task::SetHead(65, 3, 3, 2)),
-        ("no-room-matrix", Task::SetCell { place: 3, rights: 1 }),
+        ("no-room-matrix", set_cell(3, 1)),
     ];
     let mut cases = Vec::new();
     for (label, task) in strangers {

@@ -20,24 +20,24 @@ pub enum Task {
     NoCommand(u8),
     ReadMatrix(Vec<u8>),
     ReadMatrixByHead(Vec<u8>),
-    SetCell {
-        place: u16,
-        rights: u64,
-    },
     /// The cells are converted where they lie.
     ConvertedCells,
-    /// Up to four sets are copied over the cells, from the first on.
-    CopyCells(Vec<u64>),
+    /// Up to four sets are copied over the cells from a place on.
+    CopyCells {
+        place: u64,
+        sets: Vec<u64>,
+    },
     NoThings,
     PutThing {
         seat: u64,
         id: u16,
         kind: u8,
     },
-    /// The things become those that the creates and destroys of a request leave, whose things sit at these spots.
+    /// The things of a request are located. Then its creates and destroys are planned with the spots that are given, that of all parameters but the second,
+    /// and that of the second: the things become those of the plan. With both, one parameter's spot is told.
     Plan {
         ask: Ask,
-        spots: [u8; 8],
+        spots: [u8; 2],
         parameter: u8,
     },
     Request(Ask),
@@ -68,11 +68,6 @@ pub enum Task {
     Seats {
         first: u64,
         id: u16,
-    },
-    /// The spots of a request's things, and that of one parameter.
-    Locate {
-        ask: Ask,
-        parameter: u8,
     },
     At(At),
     /// How many requests a list has.

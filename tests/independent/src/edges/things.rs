@@ -72,20 +72,29 @@ fn full() -> Vec<Case> {
     cases
 }
 
-/// As many as both have: fewer cells lent than sets, as many, and more.
+/// As many as both have: fewer cells lent than sets, as many, and more; from the first place on, from the last ones, and from past the end.
 fn copies() -> Vec<Case> {
     let sets = [u64::MAX, 0, 1, 1 << 63];
+    let copy = |label: String, cells: u16, place: u64, many: usize| {
+        let sets = sets[..many].to_vec();
+        let copy = Task::CopyCells { place, sets };
+        let read = key_matrix(&format!("{label}-matrix"));
+        [
+            read,
+            Case {
+                cells,
+                ..case(label, copy)
+            },
+        ]
+    };
     let mut cases = Vec::new();
     for cells in [0, 1, 2, 3, 4, 5, 2_303, 2_304, 2_305, 2_400] {
         for many in [0, 1, 3, 4] {
-            let label = format!("copy-{many}-to-{cells}");
-            cases.push(key_matrix(&format!("{label}-matrix")));
-            let copy = Task::CopyCells(sets[..many].to_vec());
-            cases.push(Case {
-                cells,
-                ..case(label, copy)
-            });
+            cases.extend(copy(format!("copy-{many}-to-{cells}"), cells, 0, many));
         }
+    }
+    for place in [1, 2_300, 2_301, 2_303, 2_304, 2_305, u64::MAX] {
+        cases.extend(copy(format!("copy-4-from-{place}"), 2_304, place, 4));
     }
     cases
 }
