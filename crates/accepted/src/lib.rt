@@ -14,5 +14,5 @@ pub use form::is_create;
 pub use form::last_group;
 pub use form::type_at;
 pub use scheme::command_accepted;
-pub use scheme::head_fault;
+pub use scheme::head_accepted;
 pub use scheme::scheme_accepted;

@@ -13,16 +13,25 @@ ghost use mathlib.Core.Path.{_≡_};
 ghost use mathlib.Core.Bool.{cond, _&&_};
 ghost use Rattle.laws.specs.Check.{all, padded};
 ghost use Rattle.model.specs.Scheme.{commandsOf};
-ghost use Rattle.model.specs.Accepted.{headFault, zeroCommand, acceptedCommand, acceptedScheme};
+ghost use Rattle.model.specs.Accepted.{headFault, acceptedHead, zeroCommand, acceptedCommand, acceptedScheme};
 ghost use Rattle.accepted.specs.Answers.{asChecked};
 
-pub fn head_fault(h: Head) -> Checked
+fn head_fault(h: Head) -> Checked
     ensures { λ r. ⌜ r ≡ asChecked (headFault h) ⌝ }
 {
     Checked::must(between(1, Right::LIMIT, h.rights), 4)
         .then_must(between(1, ThingType::LIMIT, h.types), 4)
         .then_must(h.subjects.within(h.types), 6)
         .then_must(between(1, Scheme::LIMIT, h.count), 4)
+}
+
+pub fn head_accepted(h: Head) -> bool
+    ensures { λ r. ⌜ r ≡ acceptedHead h ⌝ }
+{
+    let Checked::Fine = head_fault(h) else {
+        return false;
+    };
+    true
 }
 
 pub fn command_accepted(h: Head, c: Command) -> bool
@@ -61,8 +70,8 @@ fn commands_accepted(s: Scheme) -> bool
 pub fn scheme_accepted(s: Scheme) -> bool
     ensures { λ r. ⌜ r ≡ acceptedScheme s ⌝ }
 {
-    let Checked::Fine = head_fault(s.head) else {
+    if !head_accepted(s.head) {
         return false;
-    };
+    }
     commands_accepted(s)
 }

@@ -10,22 +10,22 @@ use mathlib.Core.List.{List, [], _∷_, _++_}
 use borrow.Author.Tests.{eqb-true, eqb-false}
 use lib.Dec.{T, eqb, leb, leb→le}
 use lib.ListN.{length, getD, replicate}
-use Rattle.laws.specs.Check.{Fault, passes, any, all, between}
+use Rattle.laws.specs.Check.{Fault, any, all, between}
 use Rattle.laws.proofs.Bools.{is-true, and-left, and-right, and-both, or-left, or-right}
 use Rattle.model.specs.Request.{Request, Answer, refused, at, number, answer, after, answers, step}
 use Rattle.model.specs.Answers.{replyTo, replyWidth}
 use Rattle.model.specs.Seats.{Matrix, seats, noThings}
 use Rattle.model.specs.Promises.{tellsRequest}
-use Rattle.model.specs.Accepted.{headFault, allFrom, acceptedScheme, acceptedMatrix}
+use Rattle.model.specs.Accepted.{acceptedHead, allFrom, acceptedScheme, acceptedMatrix}
 use Rattle.model.specs.Arrays.{noScheme}
 use Rattle.model.specs.declared.Command.{Command}
 use Rattle.model.specs.declared.Head.{Head}
 use Rattle.model.specs.declared.Scheme.{Scheme}
 use Rattle.model.specs.declared.Things.{Things}
 use Rattle.model.proofs.Numbers.{request-numbers}
-use Rattle.records.specs.Bytes.{recordBytes}
+use Rattle.records.specs.Bytes.{number2, recordBytes}
 use Rattle.records.specs.Reading.{Read, got, fault}
-use Rattle.records.specs.Front.{Refusal, recordAt}
+use Rattle.records.specs.Front.{Refusal, against, recordAt, inRecord}
 use Rattle.records.specs.Writing.{writeBytes, writeRecord}
 use Rattle.records.specs.Told.{ofRecord, ofReading, ofWriting}
 use Rattle.records.specs.declared.RecordAnswer.{RecordAnswer}
@@ -40,6 +40,11 @@ use Rattle.command_bytes.specs.Answers.{asHeadAt, asCommandAt, readHead, readCo
 use Rattle.scheme_bytes.specs.Answers.{readScheme}
 use Rattle.scheme_bytes.specs.declared.answers.SchemeAnswer.{SchemeAnswer}
 use Rattle.scheme_bytes.specs.Write.{schemeBytes, writeScheme}
+use Rattle.matrix_records.specs.Content.{ThingRecord, CellRecord, listed}
+use Rattle.matrix_records.specs.Read.{head, thing, cell}
+use Rattle.matrix_records.specs.Answers as matrix-records
+use Rattle.matrix_records.specs.Answers.{kindAt, anyRecordAt, asThingAt, asCellAt, readThing, readCell}
+use Rattle.matrix_records.specs.Told.{ofHead, ofThing, ofCell}
 use Rattle.matrix_bytes.specs.Read.{matrix}
 use Rattle.matrix_bytes.specs.Answers.{asMatrix, readMatrix, readMatrixByHead}
 use Rattle.matrix_bytes.specs.Write.{matrixBytes, writeMatrix, writeMatrixByHead}
@@ -66,11 +71,11 @@ use Rattle.robot.specs.Library.{Wrote, writingBy, notConverted, convertSchemeBy
 use Rattle.robot.proofs.CallLaws.{scheme-accepted}
 use Rattle.robot.proofs.RunLaws.{read-accepted}
 use Rattle.agreement.specs.LibraryAgrees.{Bytes}
-use Rattle.agreement.specs.Numbers.{table, ofARecord, ofARequest, ofAHead, ofACommand, ofAScheme, ofAMatrix, ofBoth, ofAStep, ofConverting}
+use Rattle.agreement.specs.Numbers.{table, ofARecord, ofARequest, ofAHead, ofACommand, ofAScheme, ofAPart, ofAMatrix, ofBoth, ofAStep, ofConverting}
 use Rattle.agreement.specs.Numbers.{oneOf, Gives, Numbers}
 use Rattle.agreement.proofs.FaultNumbers.{passedFault, conversion-fault, unless-27}
 use Rattle.agreement.proofs.ReadNumbers.{passed, passedRequest}
-use Rattle.agreement.proofs.ReadNumbers.{head-only, command-only, scheme-only, matrix-only, request-only, list-only}
+use Rattle.agreement.proofs.ReadNumbers.{head-only, command-only, matrix-head-only, matrix-thing-only, matrix-cell-only, scheme-only, matrix-only, request-only, list-only}
 
 -- ---- where success passes, and each refusal of an answer does, its number does
 module _ (ok : ℕ → Bool) (none-passes : T (ok 0)) where
@@ -95,9 +100,35 @@ module _ (ok : ℕ → Bool) (none-passes : T (ok 0)) where
   of-command (got c next) t = none-passes
   of-command (fault f) t = t
 
+  of-matrix-head : (kind : ℕ) (r : Read ℕ Refusal ℕ) → T (fine (λ f. ok (f .number)) r) → T (ok (ofHead (matrix-records.asHeadAt kind r) .number))
+  of-matrix-head kind (got n next) t = none-passes
+  of-matrix-head kind (fault f) t = t
+
+  of-thing : (kind : ℕ) (r : Read ℕ Refusal ThingRecord) → T (fine (λ f. ok (f .number)) r) → T (ok (ofThing (asThingAt kind r) .number))
+  of-thing kind (got x next) t = none-passes
+  of-thing kind (fault f) t = t
+
+  of-cell : (n : ℕ) (ids : List ℕ) (kind : ℕ) (r : Read ℕ Refusal CellRecord) → T (fine (λ f. ok (f .number)) r) →
+      T (ok (ofCell (asCellAt n ids kind r) .number))
+  of-cell n ids kind (got c next) t = none-passes
+  of-cell n ids kind (fault f) t = t
+
   of-run : (n : ℕ) (a : Reading) → T (passed ok a) → T (ok (ofRun (runAnswer n a) .number))
   of-run n (reading.Done next) t = none-passes
   of-run n (reading.Refused k at) t = t
+
+-- ---- a record of any kind; and one against a head, which may be 27
+against-head : {A : Type 0} (ok : ℕ → Bool) → T (ok 27) → (given : Bool) (r : Read ℕ Refusal A) → T (fine (λ f. ok (f .number)) r) →
+    T (fine (λ f. ok (f .number)) (against given r))
+against-head ok twenty-seven true r t = t
+against-head ok twenty-seven false r t = twenty-seven
+
+any-record : (front body : Bool) (kind start len at : ℕ) →
+    Gives (1 ∷ []) (ofRecord (cond front (cond body (record-answer.Record kind start len) (record-answer.Refused 1 at)) (record-answer.Refused 1 at)) .number)
+unfolding oneOf any
+any-record true true kind start len at = tt
+any-record true false kind start len at = tt
+any-record false body kind start len at = tt
 
 -- ---- a matrix that is to be read: 27 where the scheme or the lent cells aren't right
 a-matrix : (right : Bool) (h : Head) (bytes : List ℕ) (things : Things) (cells : List ℕ) →
@@ -204,15 +235,15 @@ module _ (ok : ℕ → Bool) (none-passes : T (ok 0)) (all-pass : T (allFrom ok 
 -- ---- a list, as the engine runs it, and totals
 module _ (ok : ℕ → Bool) (none-passes : T (ok 0)) (twenty-seven : T (ok 27)) (s : Scheme) (m : Matrix) where
   module _ (one : T (ok 1)) (two : T (ok 2)) (three : T (ok 3)) (four : T (ok 4)) (bytes : List ℕ) where
-    abbrev listed : Listed
-    listed = readList bytes
+    abbrev theList : Listed
+    theList = readList bytes
 
-    list-told : T (ok (ofRun (runAnswer (length (listed .requests)) (listed .ending)) .number))
-    list-told = of-run ok none-passes (length (listed .requests)) (listed .ending) (list-only ok one two three four bytes)
+    list-told : T (ok (ofRun (runAnswer (length (theList .requests)) (theList .ending)) .number))
+    list-told = of-run ok none-passes (length (theList .requests)) (theList .ending) (list-only ok one two three four bytes)
 
     of-list : T (ok 9) → (out : List ℕ) → T (ok (ofRun (runOn s m bytes out .ran .answer) .number))
     unfolding runOn
-    of-list nine out = by (acceptedScheme s && acceptedMatrix (s .head) m) (leb (replyWidth * length (listed .requests)) (length out)) _ list-told
+    of-list nine out = by (acceptedScheme s && acceptedMatrix (s .head) m) (leb (replyWidth * length (theList .requests)) (length out)) _ list-told
       where
         by : (right fits : Bool) (r : Result) → T (ok (ofRun (r .ran .answer) .number)) →
             T (ok (ofRun (cond right (cond fits r (refusedRun m out 9)) (refusedRun m out 27) .ran .answer) .number))
@@ -320,21 +351,40 @@ any-passed (reading.Refused k at) = tt
 
 -- ---- the functions: a number that is listed with one passes by computing
 pub numbers : Numbers
-unfolding all any allFrom oneOf table ofARecord ofARequest ofAHead ofACommand ofAScheme ofAMatrix ofBoth ofAStep ofConverting readHead readCommand readMatrix readMatrixByHead writeRecord writeScheme writeMatrix writeMatrixByHead writeRequest checkScheme checkAgainst checkMatrix runAgainst runBytes convertSchemeBytes convertAgainst convertMatrixBytes requestBytes
+unfolding all any allFrom oneOf table ofARecord ofARequest ofAHead ofACommand ofAScheme ofAPart ofAMatrix ofBoth ofAStep ofConverting readHead readCommand anyRecordAt matrix-records.readHead readThing readCell readMatrix readMatrixByHead writeRecord writeScheme writeMatrix writeMatrixByHead writeRequest checkScheme checkAgainst checkMatrix runAgainst runBytes convertSchemeBytes convertAgainst convertMatrixBytes requestBytes
 numbers = record {
   inTable = tt;
   aRecord = λ bytes at kinds. of-record (oneOf ofARecord) tt (recordAt bytes at kinds) (only-front (oneOf ofARecord) tt tt bytes at kinds);
   aHead = λ bytes at. of-head (oneOf ofAHead) tt (headAt bytes at) (head-only (oneOf ofAHead) tt tt tt tt tt bytes at);
-  aCommand = λ bytes at h. of-command (oneOf ofACommand) tt (commandAt bytes h at) (command-only (oneOf ofACommand) tt tt tt tt tt tt bytes h at);
+  aCommand = λ bytes at h.
+      let ok = oneOf (27 ∷ ofACommand) in
+      let read = commandAt bytes h at in
+      of-command ok tt (against (acceptedHead h) read) (against-head ok tt (acceptedHead h) read (command-only ok tt tt tt tt tt tt bytes h at));
   aScheme = λ bytes held. of-reading (oneOf ofAScheme) tt (readScheme bytes held .answer) (scheme-only (oneOf ofAScheme) tt tt tt tt tt tt tt bytes held);
+  anyRecord = λ bytes at. any-record (leb (at + 4) (length bytes)) (leb (at + 4 + number2 bytes at) (length bytes)) (kindAt bytes at) (at + 4) (number2 bytes at) at;
+  aMatrixHead = λ bytes at kinds h.
+      let ok = oneOf (27 ∷ ofAHead) in
+      let read = inRecord bytes kinds (λ kind. head h) at in
+      let fine-read = matrix-head-only ok tt tt tt tt h bytes kinds tt at in
+      of-matrix-head ok tt (kindAt bytes at) (against (acceptedHead h) read) (against-head ok tt (acceptedHead h) read fine-read);
+  aThing = λ bytes at kinds h last.
+      let ok = oneOf (27 ∷ ofAPart) in
+      let read = inRecord bytes kinds (λ kind. thing h last) at in
+      let fine-read = matrix-thing-only ok tt tt tt tt h bytes kinds tt tt last at in
+      of-thing ok tt (kindAt bytes at) (against (acceptedHead h) read) (against-head ok tt (acceptedHead h) read fine-read);
+  aCell = λ bytes at kinds h th n last.
+      let ok = oneOf (27 ∷ ofAPart) in
+      let read = inRecord bytes kinds (λ kind. cell h (listed n th) last) at in
+      let fine-read = matrix-cell-only ok tt tt tt tt h bytes kinds tt tt (listed n th) last at in
+      of-cell ok tt n (th .ids) (kindAt bytes at) (against (acceptedHead h) read) (against-head ok tt (acceptedHead h) read fine-read);
   aMatrix = λ bytes s things cells. a-matrix (acceptedScheme s && eqb (length cells) 2304) (s .head) bytes things cells;
-  aMatrixByHead = λ bytes h things cells. a-matrix (passes (headFault h) && eqb (length cells) 2304) h bytes things cells;
+  aMatrixByHead = λ bytes h things cells. a-matrix (acceptedHead h && eqb (length cells) 2304) h bytes things cells;
   aRequest = λ bytes at. of-request (oneOf ofARequest) tt (readRequest bytes at .answer) (request-only (oneOf ofARequest) tt tt tt tt bytes at);
   aList = λ bytes. of-reading (oneOf ofARequest) tt (readList bytes .ending) (list-only (oneOf ofARequest) tt tt tt tt bytes);
   recordInto = λ out at kind body. if-may (oneOf (4 ∷ 9 ∷ [])) tt tt (leb (length body) 65535) 4 tt out at (recordBytes kind body);
   schemeInto = λ out s. if-may (oneOf (9 ∷ 27 ∷ [])) tt tt (acceptedScheme s) 27 tt out 0 (schemeBytes s);
   matrixInto = λ out s m. if-may (oneOf (9 ∷ 27 ∷ [])) tt tt (acceptedScheme s && acceptedMatrix (s .head) m) 27 tt out 0 (matrixBytes (s .head) m);
-  matrixIntoByHead = λ out h m. if-may (oneOf (9 ∷ 27 ∷ [])) tt tt (passes (headFault h) && acceptedMatrix h m) 27 tt out 0 (matrixBytes h m);
+  matrixIntoByHead = λ out h m. if-may (oneOf (9 ∷ 27 ∷ [])) tt tt (acceptedHead h && acceptedMatrix h m) 27 tt out 0 (matrixBytes h m);
   requestInto = λ out at command ids. if-may (oneOf (4 ∷ 9 ∷ [])) tt tt (leb (length ids) 8) 4 tt out at (bytesOf command ids);
   request = of-request-on (oneOf (27 ∷ ofAStep)) tt tt tt;
   eachOfAList = of-each (oneOf ofAStep) tt tt;

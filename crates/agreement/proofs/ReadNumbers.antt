@@ -122,40 +122,52 @@ module _ (ok : ℕ → Bool) (three : T (ok 3)) (four : T (ok 4)) (six : T (ok 6
         only-then ok (typesIn h k) _ (only-steps ok (λ (u : Unit {0}). typeIn h) (λ u x. u) (λ u. type-only h) k tt) (λ types. from-only h types))
 
 -- ---- a matrix's head, thing and cell
-module _ (ok : ℕ → Bool) (three : T (ok 3)) (four : T (ok 4)) (five : T (ok 5)) (six : T (ok 6)) (seven : T (ok 7)) (h : Head) where
-  matrix-head-body : Only ok (matrix-records.head h)
+module _ (ok : ℕ → Bool) (three : T (ok 3)) (six : T (ok 6)) (h : Head) where
+  matrix-head-body : T (ok 4) → Only ok (matrix-records.head h)
   unfolding matrix-records.head
-  matrix-head-body =
+  matrix-head-body four =
       a-field ok three 1 65 4 four _ (λ n.
       a-check ok three (eqb n (h .rights)) 6 six _ (
       only-field ok three 0 49 4 four))
 
-  thing-body : (last : ℕ) → Only ok (matrix-records.thing h last)
-  unfolding matrix-records.thing
-  thing-body last =
-      a-number ok three 2 _ (λ id.
-      a-check ok three (not (eqb id 0)) 6 six _ (
-      a-check ok three (ltb last id) 7 seven _ (
-      a-field ok three 0 (h .types) 5 five _ (λ t i. tt))))
+  module _ (five : T (ok 5)) (seven : T (ok 7)) where
+    thing-body : (last : ℕ) → Only ok (matrix-records.thing h last)
+    unfolding matrix-records.thing
+    thing-body last =
+        a-number ok three 2 _ (λ id.
+        a-check ok three (not (eqb id 0)) 6 six _ (
+        a-check ok three (ltb last id) 7 seven _ (
+        a-field ok three 0 (h .types) 5 five _ (λ t i. tt))))
 
-  cell-body : (things : List ThingRecord) (last : CellRecord) → Only ok (cell h things last)
-  unfolding cell
-  cell-body things last =
-      a-number ok three 2 _ (λ row.
-      a-check ok three (isSome (thingWith things row)) 5 five _ (
-      a-check ok three (isRow h (thingWith things row)) 6 six _ (
-      a-number ok three 2 _ (λ column.
-      a-check ok three (isSome (thingWith things column)) 5 five _ (
-      a-check ok three (above last row column) 7 seven _ (
-      a-number ok three 8 _ (λ rights.
-      a-check ok three (ltb rights (2 ^ h .rights)) 5 five _ (
-      a-check ok three (not (eqb rights 0)) 6 six _ (λ i. tt)))))))))
+    cell-body : (things : List ThingRecord) (last : CellRecord) → Only ok (cell h things last)
+    unfolding cell
+    cell-body things last =
+        a-number ok three 2 _ (λ row.
+        a-check ok three (isSome (thingWith things row)) 5 five _ (
+        a-check ok three (isRow h (thingWith things row)) 6 six _ (
+        a-number ok three 2 _ (λ column.
+        a-check ok three (isSome (thingWith things column)) 5 five _ (
+        a-check ok three (above last row column) 7 seven _ (
+        a-number ok three 8 _ (λ rights.
+        a-check ok three (ltb rights (2 ^ h .rights)) 5 five _ (
+        a-check ok three (not (eqb rights 0)) 6 six _ (λ i. tt)))))))))
 
 -- ---- their records
 either : {A : Type 0} (ok : ℕ → Bool) (b : Bool) (r q : Read ℕ Refusal A) → T (fine (λ f. ok (f .number)) r) → T (fine (λ f. ok (f .number)) q) →
     T (fine (λ f. ok (f .number)) (cond b r q))
 either ok true r q t u = t
 either ok false r q t u = u
+
+module _ (ok : ℕ → Bool) (one : T (ok 1)) (two : T (ok 2)) (three : T (ok 3)) (six : T (ok 6)) (h : Head) (s : List ℕ) (kinds : ℕ) where
+  pub matrix-head-only : T (ok 4) → Only (λ f. ok (f .number)) (inRecord s kinds (λ kind. matrix-records.head h))
+  matrix-head-only four = only-record ok one two three s kinds (λ kind. matrix-records.head h) (λ kind. matrix-head-body ok three six h four)
+
+  module _ (five : T (ok 5)) (seven : T (ok 7)) where
+    pub matrix-thing-only : (last : ℕ) → Only (λ f. ok (f .number)) (inRecord s kinds (λ kind. matrix-records.thing h last))
+    matrix-thing-only last = only-record ok one two three s kinds (λ kind. matrix-records.thing h last) (λ kind. thing-body ok three six h five seven last)
+
+    pub matrix-cell-only : (things : List ThingRecord) (last : CellRecord) → Only (λ f. ok (f .number)) (inRecord s kinds (λ kind. cell h things last))
+    matrix-cell-only things last = only-record ok one two three s kinds (λ kind. cell h things last) (λ kind. cell-body ok three six h five seven things last)
 
 module _ (ok : ℕ → Bool) (one : T (ok 1)) (two : T (ok 2)) (three : T (ok 3)) (four : T (ok 4)) (six : T (ok 6)) where
   abbrev pub told : Refusal → Bool
@@ -214,15 +226,11 @@ module _ (ok : ℕ → Bool) (one : T (ok 1)) (two : T (ok 2)) (three : T (ok 3)
       matrix-fine : Only told (matrix h s)
       unfolding matrix
       matrix-fine =
-          let head = only-record ok one two three s 8 (λ kind. matrix-records.head h) (λ kind. matrix-head-body ok three four five six seven h) in
-          let thing : (last : ℕ) → Only told (thingAt last) = λ last.
-          only-record ok one two three s 16 (λ kind. matrix-records.thing h last) (λ kind. thing-body ok three four five six seven h last) in
-          let cell : (things : List ThingRecord) (last : CellRecord) → Only told (cellAt things last) = λ things last.
-          only-record ok one two three s 32 (λ kind. cell h things last) (λ kind. cell-body ok three four five six seven h things last) in
-          only-then told matrixHead _ head (λ count.
-          only-then told (steps thingAt (λ last t. t .id) count 0) _ (only-steps told thingAt (λ last t. t .id) thing count 0) (λ things.
+          only-then told matrixHead _ (matrix-head-only ok one two three six h s 8 four) (λ count.
+          only-then told (steps thingAt (λ last t. t .id) count 0) _
+          (only-steps told thingAt (λ last t. t .id) (matrix-thing-only ok one two three six h s 16 five seven) count 0) (λ things.
           only-then told (toEnd s (cellAt things) (λ last c. c) (length s) start) _
-          (to-end (cellAt things) (λ last c. c) (cell things) (length s) start) (λ cells i. tt)))
+          (to-end (cellAt things) (λ last c. c) (matrix-cell-only ok one two three six h s 32 five seven things) (length s) start) (λ cells i. tt)))
 
       pub matrix-only : (things : Things) (cells : List ℕ) → T (passed ok (asMatrix things cells (matrix h s 0) .0 .answer))
       matrix-only things cells = by (matrix h s 0) (matrix-fine 0)

@@ -17,6 +17,10 @@ use Rattle.records.specs.Told.{ofRecord, ofReading, ofWriting}
 use Rattle.command_bytes.specs.Answers.{readHead, readCommand, ofHeadAt}
 use Rattle.scheme_bytes.specs.Answers.{readScheme}
 use Rattle.scheme_bytes.specs.Write.{writeScheme}
+use Rattle.matrix_records.specs.Content.{CellRecord}
+use Rattle.matrix_records.specs.Answers as matrix-records
+use Rattle.matrix_records.specs.Answers.{anyRecordAt, readThing, readCell}
+use Rattle.matrix_records.specs.Told.{ofHead, ofThing, ofCell}
 use Rattle.matrix_bytes.specs.Answers.{readMatrix, readMatrixByHead}
 use Rattle.matrix_bytes.specs.Write.{writeMatrix, writeMatrixByHead}
 use Rattle.request_bytes.specs.Read.{readRequest}
@@ -50,6 +54,10 @@ ofACommand = 1 ∷ 2 ∷ 3 ∷ 4 ∷ 5 ∷ 6 ∷ []
 unfoldable pub ofAScheme : List ℕ
 ofAScheme = 1 ∷ 2 ∷ 3 ∷ 4 ∷ 5 ∷ 6 ∷ 8 ∷ []
 
+-- a thing's and a cell's record
+unfoldable pub ofAPart : List ℕ
+ofAPart = 1 ∷ 2 ∷ 3 ∷ 5 ∷ 6 ∷ 7 ∷ []
+
 unfoldable pub ofAMatrix : List ℕ
 ofAMatrix = 1 ∷ 2 ∷ 3 ∷ 4 ∷ 5 ∷ 6 ∷ 7 ∷ []
 
@@ -73,12 +81,17 @@ Gives ks k = T (oneOf ks k)
 
 pub record Numbers : Type 0 where
   -- ---- all that is listed is in the table
-  pub inTable : T (all (oneOf table) (ofARecord ++ ofARequest ++ ofAHead ++ ofACommand ++ ofAScheme ++ ofAMatrix ++ ofBoth ++ ofAStep ++ ofConverting ++ 9 ∷ 27 ∷ []))
+  pub inTable : T (all (oneOf table) (ofARecord ++ ofARequest ++ ofAHead ++ ofACommand ++ ofAScheme ++ ofAPart ++ ofAMatrix ++ ofBoth ++ ofAStep ++ ofConverting ++ 9 ∷ 27 ∷ []))
   -- ---- readings
   pub aRecord : (bytes : List ℕ) (at kinds : ℕ) → Gives ofARecord (ofRecord (recordAt bytes at kinds) .number)
   pub aHead : (bytes : List ℕ) (at : ℕ) → Gives ofAHead (ofHeadAt (readHead bytes at) .number)
-  pub aCommand : (bytes : List ℕ) (at : ℕ) (h : Head) → Gives ofACommand (ofReading (readCommand bytes at h .answer) .number)
+  pub aCommand : (bytes : List ℕ) (at : ℕ) (h : Head) → Gives (27 ∷ ofACommand) (ofReading (readCommand bytes at h .answer) .number)
   pub aScheme : (bytes : List ℕ) (held : Scheme) → Gives ofAScheme (ofReading (readScheme bytes held .answer) .number)
+  pub anyRecord : (bytes : List ℕ) (at : ℕ) → Gives (1 ∷ []) (ofRecord (anyRecordAt bytes at) .number)
+  pub aMatrixHead : (bytes : List ℕ) (at kinds : ℕ) (h : Head) → Gives (27 ∷ ofAHead) (ofHead (matrix-records.readHead bytes at kinds h) .number)
+  pub aThing : (bytes : List ℕ) (at kinds : ℕ) (h : Head) (last : ℕ) → Gives (27 ∷ ofAPart) (ofThing (readThing bytes at kinds h last) .number)
+  pub aCell : (bytes : List ℕ) (at kinds : ℕ) (h : Head) (th : Things) (n : ℕ) (last : CellRecord) →
+      Gives (27 ∷ ofAPart) (ofCell (readCell bytes at kinds h th n last) .number)
   pub aMatrix : (bytes : List ℕ) (s : Scheme) (things : Things) (cells : List ℕ) →
       Gives (27 ∷ ofAMatrix) (ofReading (readMatrix bytes s things cells .0 .answer) .number)
   pub aMatrixByHead : (bytes : List ℕ) (h : Head) (things : Things) (cells : List ℕ) →

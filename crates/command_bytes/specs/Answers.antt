@@ -3,10 +3,11 @@
 use Prim.Native.Nat.{ℕ}
 use mathlib.Core.List.{List, [], _∷_}
 use Rattle.model.specs.Arrays.{noCommand}
+use Rattle.model.specs.Accepted.{acceptedHead}
 use Rattle.model.specs.declared.Command.{Command}
 use Rattle.model.specs.declared.Head.{Head}
 use Rattle.records.specs.Reading.{Read, got, fault}
-use Rattle.records.specs.Front.{Refusal}
+use Rattle.records.specs.Front.{Refusal, against}
 use Rattle.records.specs.Told.{Told, told}
 use Rattle.records.specs.declared.Reading.the-variants.{Done, Refused}
 use Rattle.command_bytes.specs.Read.{headAt, commandAt}
@@ -23,12 +24,12 @@ abbrev pub asCommandAt : Read ℕ Refusal Command → CommandAnswer
 asCommandAt (got c next) = record { answer = Done next; command = c }
 asCommandAt (fault f) = record { answer = Refused (f .number) (f .at); command = noCommand }
 
--- the functions: the head, and a command, at a position
+-- the functions: the head, and a command against a head, at a position
 unfoldable pub readHead : List ℕ → ℕ → HeadAt
 readHead bytes at = asHeadAt (headAt bytes at)
 
 unfoldable pub readCommand : List ℕ → ℕ → Head → CommandAnswer
-readCommand bytes at h = asCommandAt (commandAt bytes h at)
+readCommand bytes at h = asCommandAt (against (acceptedHead h) (commandAt bytes h at))
 
 -- the head's fields and the next position; or the number and the record's position
 abbrev pub ofHeadAt : HeadAt → Told

@@ -5,6 +5,7 @@ use crate::lists::operations_at;
 use crate::lists::tests_at;
 use crate::lists::types_at;
 use crate::none::no_command;
+use accepted::head_accepted;
 use model::Command;
 use model::Head;
 use model::Operations;
@@ -88,10 +89,13 @@ fn command_of(b: &[u8], h: Head, at: usize, next: usize) -> CommandAnswer
     command_from(b, 1 + (k as usize), h, parameters, at, next)
 }
 
-// The command's record at a position.
+// The command's record at a position: 27 for a head that no reading gives.
 pub fn read_command(s: &[u8], at: usize, h: Head) -> CommandAnswer
     ensures { λ r. ⌜ r ≡ readCommand (now (s .entry)) at h ⌝ }
 {
+    if !head_accepted(h) {
+        return refused(27, 0);
+    }
     let found = records::record_at(s, at, Kinds(4));
     let RecordAnswer::Record {
         kind: _,

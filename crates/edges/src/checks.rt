@@ -8,7 +8,7 @@ use rights::Parameter;
 
 fn all(s: Scheme, th: Things, cells: &[u64]) {
     let h = s.head;
-    print::byte(accepted::head_fault(h).number());
+    print::flag(accepted::head_accepted(h));
     print::flag(accepted::scheme_accepted(s));
     print::flag(accepted_matrix::things_accepted(h, th));
     print::flag(accepted_matrix::matrix_accepted(h, th, cells));

@@ -8,9 +8,8 @@ use mathlib.Core.Path.{_≡_, refl, _∙_}
 use lib.Dec.{T, eqb}
 use lib.ListN.{length, take, replicate}
 use borrow.Author.Tests.{eq-eqb, ne-eqb}
-use Rattle.laws.specs.Check.{passes}
 use Rattle.model.specs.Seats.{find, seat, place}
-use Rattle.model.specs.Accepted.{headFault, acceptedScheme}
+use Rattle.model.specs.Accepted.{acceptedHead, acceptedScheme}
 use Rattle.model.specs.declared.Head.{Head}
 use Rattle.model.specs.declared.Scheme.{Scheme}
 use Rattle.model.specs.declared.Things.{Things}
@@ -33,6 +32,7 @@ use Rattle.matrix_bytes.proofs.Seating.{from-room, from-listed}
 use Rattle.matrix_bytes.proofs.Spots.{EachCell}
 use Rattle.matrix_bytes.proofs.Spots.EachCell.{no as no-cell, also}
 use Rattle.matrix_bytes.proofs.Trips.{cells-back}
+use Rattle.matrix_bytes.proofs.Rising.{taken-rising}
 use Rattle.matrix_bytes.proofs.RoundTrips.{head-passes}
 use Rattle.matrix_bytes.proofs.ReadThings.{headRead, thingsRead, head-few, things-end}
 
@@ -73,19 +73,19 @@ module _ (s : List ℕ) (h : Head) (things : Things) (cells : List ℕ) where
   pub matrix-room : (length cells ≡ 2304 → ⊥) → (m : MatrixAnswer) → m ≡ refusedAt things 27 0 →
       _≡_ {A = MatrixAnswer × List ℕ} (m, cells) answered
   unfolding readMatrixByHead
-  matrix-room n m em = rw (em, ne-eqb (length cells) 2304 n) (go (passes (headFault h)))
+  matrix-room n m em = rw (em, ne-eqb (length cells) 2304 n) (go (acceptedHead h))
     where
       go : (b : Bool) → _≡_ {A = MatrixAnswer × List ℕ} (refusedAt things 27 0, cells)
           (cond (b && false) (asMatrix things cells (matrix h s 0)) (refusedAt things 27 0, cells))
       go true = refl
       go false = refl
 
-  pub matrix-head : passes (headFault h) ≡ false → (m : MatrixAnswer) → m ≡ refusedAt things 27 0 →
+  pub matrix-head : acceptedHead h ≡ false → (m : MatrixAnswer) → m ≡ refusedAt things 27 0 →
       _≡_ {A = MatrixAnswer × List ℕ} (m, cells) answered
   unfolding readMatrixByHead
   matrix-head e m em = rw (em, e)
 
-  module _ (ok : passes (headFault h) ≡ true) (room : length cells ≡ 2304) where
+  module _ (ok : acceptedHead h ≡ true) (room : length cells ≡ 2304) where
     read-opened : answered ≡ asMatrix things cells (matrix h s 0)
     unfolding readMatrixByHead
     read-opened = rw (ok, eq-eqb (length cells) 2304 room)
@@ -120,7 +120,7 @@ module _ (s : List ℕ) (h : Head) (things : Things) (cells : List ℕ) where
           let z = head-sized h (from-true ok) in
           let (rise, n, near) = things-end s h z g count at e ts next f in
           let few : length ts ≤ 48 = omega (arith, head-few s h z g count at e) in
-          let all : listed count (thingsFrom ts) ≡ ts = rw (← n) (from-listed ts few) in
+          let all : listed count (thingsFrom ts) ≡ ts = rw (← n) (from-listed ts few (taken-rising h 0 ts rise)) in
           let same = same-answer (cellsOn ts) (λ cs j c. stored-all h (thingsFrom ts) count (from-room ts .ids)
           (rw all (cells-back h z s ts g next j cs near c .2)) (replicate 2304 0)) in
           ex ∙ rw (et, all, read-opened, e, f) same
@@ -134,4 +134,4 @@ module _ (bytes : List ℕ) (s : Scheme) (things : Things) (cells : List ℕ) wh
 
   pub by-head : T (acceptedScheme s) → readMatrix bytes s things cells ≡ readMatrixByHead bytes (s .head) things cells
   unfolding readMatrix readMatrixByHead
-  by-head t = rw (is-true (acceptedScheme s) t, is-true (passes (headFault (s .head))) (head-passes s t))
+  by-head t = rw (is-true (acceptedScheme s) t, is-true (acceptedHead (s .head)) (head-passes s t))

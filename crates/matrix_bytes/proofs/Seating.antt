@@ -18,7 +18,7 @@ use Rattle.model.specs.Scheme.{noType}
 use Rattle.model.specs.Request.{Thing}
 use Rattle.model.specs.Seats.{among, find, known, seat, thingIn, thingAt, noThings, putThing}
 use Rattle.model.specs.declared.Things.{Things}
-use Rattle.matrix_records.specs.Content.{ThingRecord, nobody, recordIn, seated, listed}
+use Rattle.matrix_records.specs.Content.{ThingRecord, nobody, recordIn, seated, taken, listed}
 use Rattle.matrix_records.specs.Read.{thingWith}
 use Rattle.matrix_records.proofs.Listed.{ids, seated-length, seated-at, seated-ids}
 use Rattle.matrix_bytes.specs.Content.{seatAll, thingsFrom}
@@ -104,9 +104,9 @@ module _ (ts : List ThingRecord) (few : length ts ≤ 48) where
       let l : 0 + length ts ≤ length (replicate 48 nobody) = rw (length-replicate 48 nobody) (omega arith) in
       seat-all 0 ts noThings none-room (omega arith) ∙ rw none-seated (sets-eq ts (replicate 48 nobody) 0 l ∙ rw (zero-add, drop-replicate))
 
-  pub from-listed : listed (length ts) (thingsFrom ts) ≡ ts
+  pub from-listed : taken ts ≡ ts → listed (length ts) (thingsFrom ts) ≡ ts
   unfolding listed
-  from-listed = rw from-seated (take-append-seam ts (free ts))
+  from-listed e = rw (from-seated, take-append-seam ts (free ts)) e
 
   pub from-at : (i : ℕ) → i < 48 → recordIn (thingsFrom ts) i ≡ getD ts i nobody
   from-at i h = sym (seated-at (thingsFrom ts) i h) ∙ rw from-seated (behind (48 - length ts) ts i)

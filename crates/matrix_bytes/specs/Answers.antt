@@ -6,9 +6,8 @@ use mathlib.Core.Bool.{cond, _&&_}
 use mathlib.Core.List.{List}
 use lib.Dec.{eqb}
 use lib.ListN.{length}
-use Rattle.laws.specs.Check.{passes}
 use Rattle.model.specs.Seats.{Matrix}
-use Rattle.model.specs.Accepted.{headFault, acceptedScheme}
+use Rattle.model.specs.Accepted.{acceptedHead, acceptedScheme}
 use Rattle.model.specs.declared.Head.{Head}
 use Rattle.model.specs.declared.Scheme.{Scheme}
 use Rattle.model.specs.declared.Things.{Things}
@@ -31,5 +30,5 @@ readMatrix bytes s things cells =
 -- the same where the head is all that is known of the scheme
 unfoldable pub readMatrixByHead : List ℕ → Head → Things → List ℕ → MatrixAnswer × List ℕ
 readMatrixByHead bytes h things cells =
-    cond (passes (headFault h) && eqb (length cells) 2304) (asMatrix things cells (matrix h bytes 0))
+    cond (acceptedHead h && eqb (length cells) 2304) (asMatrix things cells (matrix h bytes 0))
     (record { answer = Refused 27 0; things = things }, cells)

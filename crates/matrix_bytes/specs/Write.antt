@@ -4,9 +4,8 @@ use Prim.Native.Nat.{ℕ}
 use mathlib.Core.Bool.{cond, _&&_}
 use mathlib.Core.List.{List, _++_}
 use lib.ListN.{length}
-use Rattle.laws.specs.Check.{passes}
 use Rattle.model.specs.Seats.{Matrix}
-use Rattle.model.specs.Accepted.{headFault, acceptedScheme, acceptedMatrix}
+use Rattle.model.specs.Accepted.{acceptedHead, acceptedScheme, acceptedMatrix}
 use Rattle.model.specs.declared.Head.{Head}
 use Rattle.model.specs.declared.Scheme.{Scheme}
 use Rattle.records.specs.Bytes.{recordBytes, eachBytes}
@@ -29,4 +28,4 @@ writeMatrix out s m =
 -- the same where the head is all that is known of the scheme
 unfoldable pub writeMatrixByHead : List ℕ → Head → Matrix → Writing × List ℕ
 writeMatrixByHead out h m =
-    cond (passes (headFault h) && acceptedMatrix h m) (writeBytes out 0 (matrixBytes h m)) (Refused 27, out)
+    cond (acceptedHead h && acceptedMatrix h m) (writeBytes out 0 (matrixBytes h m)) (Refused 27, out)

@@ -1,7 +1,6 @@
 // Reading a matrix: its head, its things one by one, its cells to the end. Nothing that was lent is stored to before all of it has been read.
 use crate::answers::MatrixAnswer;
-use accepted::Checked;
-use accepted::head_fault;
+use accepted::head_accepted;
 use accepted::scheme_accepted;
 use matrix_records::CellAt;
 use matrix_records::HeadAt;
@@ -14,7 +13,9 @@ use records::Reading;
 ghost use mathlib.Core.Path.{_≡_};
 ghost use mathlib.Core.List.{List};
 ghost use Prim.Native.Nat.{ℕ, _≤_, _<_};
+ghost use lib.Dec.{T};
 ghost use lib.ListN.{length};
+ghost use Rattle.model.specs.Accepted.{acceptedHead};
 ghost use Rattle.records.specs.Reading.{steps};
 ghost use Rattle.records.specs.Front.{inRecord};
 ghost use Rattle.matrix_records.specs.Read.{thing};
@@ -32,6 +33,7 @@ fn refused(number: u8, at: usize, things: Things) -> MatrixAnswer
 
 // So many things, each behind the one before it, in the seats from the first on.
 fn read_things(s: &[u8], at: usize, h: Head, count: u8) -> MatrixAnswer
+    requires { ⌜ T (acceptedHead h) ⌝ }
     ensures { λ r. ⌜ r ≡ asThings (steps (λ last. inRecord (now (s .entry)) 16 (λ kind. thing h last)) (λ last t. t .id) count 0 at) ⌝ }
 {
     let n = count as usize;
@@ -63,7 +65,7 @@ fn read_things(s: &[u8], at: usize, h: Head, count: u8) -> MatrixAnswer
 
 // All cells to the end of the input, each at its place.
 fn read_cells(s: &[u8], at: usize, h: Head, th: Things, n: usize, cells: &mut [u64]) -> Reading
-    requires { ⌜ (at ≤ length (now s)) × (length (now cells) ≡ 2304) ⌝ }
+    requires { ⌜ T (acceptedHead h) × (at ≤ length (now s)) × (length (now cells) ≡ 2304) ⌝ }
     ensures { λ r. ⌜ CellsRead n (th .ids) (now (cells .entry)) r (now (cells .exit)) (cellsFrom (now (s .entry)) h th n at) ⌝ }
 {
     let mut over: u16 = 0;
@@ -103,7 +105,7 @@ fn finish(
     things: Things,
     cells: &mut [u64],
 ) -> MatrixAnswer
-    requires { ⌜ (at ≤ length (now s)) × (length (now cells) ≡ 2304) ⌝ }
+    requires { ⌜ T (acceptedHead h) × (at ≤ length (now s)) × (length (now cells) ≡ 2304) ⌝ }
     ensures { λ r. ⌜ _≡_ {A = MatrixAnswer × List ℕ} (r, now (cells .exit)) (finished n th things (now (cells .entry)) (cellsFrom (now (s .entry)) h th n at)) ⌝ }
 {
     let mut new = [0u64; Things::CELLS];
@@ -136,10 +138,9 @@ pub fn read_matrix_by_head(s: &[u8], h: Head, things: Things, cells: &mut [u64])
     if cells.len() != Things::CELLS {
         return refused(27, 0, things);
     }
-    let checked = head_fault(h);
-    let Checked::Fine = checked else {
+    if !head_accepted(h) {
         return refused(27, 0, things);
-    };
+    }
     let head = matrix_records::read_head(s, 0, Kinds(8), h);
     let HeadAt::Good {
         kind: _,

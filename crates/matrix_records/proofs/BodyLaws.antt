@@ -3,6 +3,7 @@
 use Prim.Native.Nat.{ℕ, _+_, _*_, min, _^_, _≤_, _<_}
 use native.Mathlib.Omega.{arith}
 use mathlib.Core.Bool.{Bool, true, false, not}
+use mathlib.Core.Logic.{_≢_}
 use mathlib.Core.Option.{some}
 use mathlib.Core.List.{List, [], _∷_}
 use mathlib.Core.Path.{_≡_, refl, sym, ap, _∙_}
@@ -35,7 +36,7 @@ use Rattle.matrix_records.specs.declared.answers.Front.{Front}
 use Rattle.matrix_records.specs.declared.answers.CellAt.the-variants as cell-at
 use Rattle.matrix_records.specs.declared.answers.SeatAt.{SeatAt}
 use Rattle.matrix_records.specs.declared.answers.SeatAt.the-variants as seat-at
-use Rattle.matrix_records.proofs.Listed.{listed-none, listed-some, listed-near}
+use Rattle.matrix_records.proofs.Listed.{listed-zero, listed-none, listed-some, listed-thing, listed-near}
 use Rattle.laws.proofs.Differ.{constructors-differ}
 
 -- ---- a field that wasn't there, or is out of its range, by the number that its answer tells
@@ -192,14 +193,18 @@ module _ (b : List ℕ) (i : ℕ) (th : Things) (n : ℕ) where
   unfolding thingId
   id-missing k e = rw e
 
+  pub id-zero : length (th .ids) ≡ 48 → (id : ℕ) → asField2 (number 2 (drop i b)) ≡ two.Value id → id ≡ 0 → idRead ≡ fault 5
+  unfolding thingId isSome
+  id-zero room id ei z = rw (field2-value b i (i + 2) id refl ei, z, listed-zero th n room)
+
   module _ (room : length (th .ids) ≡ 48) (id seat : ℕ) (ei : asField2 (number 2 (drop i b)) ≡ two.Value id) (es : seat ≡ find (take n (th .ids)) id) where
     pub id-unknown : min n 48 ≤ seat → idRead ≡ fault 5
     unfolding thingId isSome
     id-unknown h = rw (field2-value b i (i + 2) id refl ei, listed-none th n room id (rw es at h))
 
-    pub id-known : seat < min n 48 → seat-at.Found id seat ≡ asSeat n (th .ids) idRead
+    pub id-known : id ≢ 0 → seat < min n 48 → seat-at.Found id seat ≡ asSeat n (th .ids) idRead
     unfolding thingId isSome
-    id-known h = rw (field2-value b i (i + 2) id refl ei, listed-some th n room id (rw es at h), es)
+    id-known nz h = rw (field2-value b i (i + 2) id refl ei, listed-some th n room id nz (rw es at h), es)
 
 -- what an answer says
 pub seat-fault : (n : ℕ) (ids : List ℕ) (m : Read (List ℕ) ℕ ℕ) (r : SeatAt) → r ≡ asSeat n ids m → (k : ℕ) → r ≡ seat-at.Fault k → (v : ℕ) →
@@ -232,7 +237,7 @@ id-read b i th n room r er id seat e = go (number 2 (drop i b)) refl (sym er ∙
               id-is = rw p (field2-value b i (i + 2) x refl (ap asField2 em));
               seat-is = rw p q;
               near = rw q (omega arith);
-              thing-is = rw (p, q) (listed-some th n room x low);
+              thing-is = rw (p, q) (listed-some th n room x (listed-thing th n room x (from-true ec)) low);
             }
         known false ec f = constructors-differ (cc)
     go (fault k) em f = constructors-differ (cc)

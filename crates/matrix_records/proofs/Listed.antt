@@ -5,16 +5,19 @@ use native.Mathlib.Nat.{add-zero, zero-add, add-suc, suc-add}
 use native.Mathlib.Decide.{decLt}
 use native.Mathlib.Omega.{arith}
 use mathlib.Core.Bool.{Bool, true, false, cond}
+use mathlib.Core.Logic.{_≢_}
 use mathlib.Core.Option.{none, some}
 use mathlib.Core.List.{List, [], _∷_, map}
 use mathlib.Core.Path.{_≡_, refl, sym, ap, _∙_}
 use lib.Dec.{T, eqb}
 use lib.ListN.{length, take, getD, length-take, length-map, List·getD-map}
 use lib.Seq.{ext-getD, getD-take}
+use borrow.Author.Tests.{eqb-true, eqb-false}
 use Rattle.laws.specs.Check.{isSome}
+use Rattle.laws.proofs.Bools.{eqb-not}
 use Rattle.model.specs.Seats.{find, thingIn}
 use Rattle.model.specs.declared.Things.{Things}
-use Rattle.matrix_records.specs.Content.{ThingRecord, nobody, recordIn, recordsFrom, seated, listed}
+use Rattle.matrix_records.specs.Content.{ThingRecord, nobody, recordIn, recordsFrom, seated, taken, listed}
 use Rattle.matrix_records.specs.Read.{thingWith}
 
 abbrev pub ids : List ThingRecord → List ℕ
@@ -76,27 +79,62 @@ map-take f zero l = refl
 map-take f (suc n) [] = refl
 map-take f (suc n) (x ∷ l) = rw (map-take f n l)
 
+-- a free seat is none of them
+taken-with : (ts : List ThingRecord) (x : ℕ) → x ≢ 0 → thingWith (taken ts) x ≡ thingWith ts x
+unfolding taken thingWith
+taken-with [] x nz = refl
+taken-with (t ∷ ts) x nz = go (eqb (t .id) 0) refl (taken-with ts x nz)
+  where
+    go : (b : Bool) → eqb (t .id) 0 ≡ b → thingWith (taken ts) x ≡ thingWith ts x →
+        thingWith (cond b (taken ts) (t ∷ taken ts)) x ≡ cond (eqb (t .id) x) (some (t .thing)) (thingWith ts x)
+    go true e q = rw (eqb-not (t .id) x (λ s. nz (sym s ∙ eqb-true (t .id) 0 e))) q
+    go false e q = rw q
+
+taken-zero : (ts : List ThingRecord) → thingWith (taken ts) 0 ≡ none
+unfolding taken thingWith
+taken-zero [] = refl
+taken-zero (t ∷ ts) = go (eqb (t .id) 0) refl (taken-zero ts)
+  where
+    go : (b : Bool) → eqb (t .id) 0 ≡ b → thingWith (taken ts) 0 ≡ none → thingWith (cond b (taken ts) (t ∷ taken ts)) 0 ≡ none
+    go true e q = q
+    go false e q = rw e q
+
 module _ (th : Things) (n : ℕ) (room : length (th .ids) ≡ 48) where
-  listed-ids : ids (listed n th) ≡ take n (th .ids)
-  unfolding listed
-  listed-ids = map-take (λ t. t .id) n (seated th) ∙ rw (seated-ids th room)
+  abbrev first : List ThingRecord
+  first = take n (seated th)
 
-  listed-length : length (listed n th) ≡ min n 48
-  unfolding listed
-  listed-length = length-take n (seated th) ∙ rw (seated-length th)
+  first-ids : ids first ≡ take n (th .ids)
+  first-ids = map-take (λ t. t .id) n (seated th) ∙ rw (seated-ids th room)
 
-  listed-at : (i : ℕ) → i < min n 48 → getD (listed n th) i nobody ≡ recordIn th i
+  first-length : length first ≡ min n 48
+  first-length = length-take n (seated th) ∙ rw (seated-length th)
+
+  first-at : (i : ℕ) → i < min n 48 → getD first i nobody ≡ recordIn th i
+  first-at i h = getD-take n (seated th) i nobody (omega arith) ∙ seated-at th i (omega arith)
+
+  pub listed-zero : thingWith (listed n th) 0 ≡ none
   unfolding listed
-  listed-at i h = getD-take n (seated th) i nobody (omega arith) ∙ seated-at th i (omega arith)
+  listed-zero = taken-zero first
 
   pub listed-none : (x : ℕ) → min n 48 ≤ find (take n (th .ids)) x → thingWith (listed n th) x ≡ none
-  listed-none x h = with-none (listed n th) x (rw (listed-length, listed-ids) h)
+  unfolding listed
+  listed-none x h = go (eqb x 0) refl
+    where
+      go : (b : Bool) → eqb x 0 ≡ b → thingWith (taken first) x ≡ none
+      go true e = rw (eqb-true x 0 e) (taken-zero first)
+      go false e = taken-with first x (eqb-false x 0 e) ∙ with-none first x (rw (first-length, first-ids) h)
 
-  pub listed-some : (x : ℕ) → find (take n (th .ids)) x < min n 48 → thingWith (listed n th) x ≡ some (thingIn th (find (take n (th .ids)) x))
-  unfolding recordIn
-  listed-some x h =
-      let seat : find (ids (listed n th)) x ≡ find (take n (th .ids)) x = rw listed-ids in
-      with-some (listed n th) x (rw (listed-length, seat) h) ∙ rw (seat, listed-at _ h)
+  pub listed-some : (x : ℕ) → x ≢ 0 → find (take n (th .ids)) x < min n 48 →
+      thingWith (listed n th) x ≡ some (thingIn th (find (take n (th .ids)) x))
+  unfolding listed recordIn
+  listed-some x nz h =
+      let seat : find (ids first) x ≡ find (take n (th .ids)) x = rw first-ids in
+      taken-with first x nz ∙ with-some first x (rw (first-length, seat) h) ∙ rw (seat, first-at _ h)
+
+  -- what is found is a thing's id, at a seat below n
+  pub listed-thing : (x : ℕ) → T (isSome (thingWith (listed n th) x)) → x ≢ 0
+  unfolding isSome
+  listed-thing x t z = absurd (rw (z, listed-zero) at t)
 
   pub listed-near : (x : ℕ) → T (isSome (thingWith (listed n th) x)) → find (take n (th .ids)) x < min n 48
   unfolding isSome

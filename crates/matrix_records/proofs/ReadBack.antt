@@ -11,8 +11,10 @@ use lib.ListN.{length}
 use Rattle.rights.specs.declared.ThingType.{ThingType}
 use Rattle.laws.specs.Check.{isSome}
 use Rattle.model.specs.Request.{ofType}
+use Rattle.model.specs.Accepted.{acceptedHead}
 use Rattle.model.specs.declared.Head.{Head}
 use Rattle.model.specs.declared.Things.{Things}
+use Rattle.laws.proofs.Bools.{is-true}
 use Rattle.laws.proofs.Differ.{constructors-differ}
 use Rattle.records.specs.Bytes.{part}
 use Rattle.records.specs.Reading.{Read, got, fault, Reader, _>>=_, _>>_, done, check, number}
@@ -20,8 +22,8 @@ use Rattle.records.specs.Front.{Refusal, inRecord}
 use Rattle.records.proofs.Trip.{never, got-same, bind-got}
 use Rattle.records.proofs.TripRecord.{in-record-back}
 use Rattle.matrix_records.specs.Content.{ThingRecord, CellRecord, listed}
-use Rattle.matrix_records.specs.Read.{cell, thingWith, isRow, above}
-use Rattle.matrix_records.specs.Answers.{asHeadAt, asThingAt, asCellAt, placeIn}
+use Rattle.matrix_records.specs.Read.{head, thing, cell, thingWith, isRow, above}
+use Rattle.matrix_records.specs.Answers.{kindAt, asHeadAt, asThingAt, asCellAt, placeIn, readHead, readThing, readCell}
 use Rattle.matrix_records.specs.Told.{ofHead, ofThing, ofCell, headPlace, thingPlace, cellPlace}
 use Rattle.matrix_records.specs.declared.answers.HeadAt.{HeadAt}
 use Rattle.matrix_records.specs.declared.answers.HeadAt.the-variants as head-at
@@ -34,6 +36,21 @@ use Rattle.matrix_records.proofs.BodyLaws.{cellWith}
 
 abbrev pub refusal : ℕ → ℕ → Refusal
 refusal k q = record { number = k; at = q }
+
+-- ---- against a head that a reading gives, nothing is left of 27
+module _ (s : List ℕ) (at kinds : ℕ) (h : Head) (ok : T (acceptedHead h)) where
+  pub head-opened : readHead s at kinds h ≡ asHeadAt (kindAt s at) (inRecord s kinds (λ kind. head h) at)
+  unfolding readHead
+  head-opened = rw (is-true (acceptedHead h) ok)
+
+  pub thing-opened : (last : ℕ) → readThing s at kinds h last ≡ asThingAt (kindAt s at) (inRecord s kinds (λ kind. thing h last) at)
+  unfolding readThing
+  thing-opened last = rw (is-true (acceptedHead h) ok)
+
+  pub cell-opened : (th : Things) (n : ℕ) (last : CellRecord) →
+      readCell s at kinds h th n last ≡ asCellAt n (th .ids) (kindAt s at) (inRecord s kinds (λ kind. cell h (listed n th) last) at)
+  unfolding readCell
+  cell-opened th n last = rw (is-true (acceptedHead h) ok)
 
 -- ---- a head
 module _ (kind : ℕ) (m : Read ℕ Refusal ℕ) (r : HeadAt) (er : r ≡ asHeadAt kind m) where

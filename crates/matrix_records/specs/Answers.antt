@@ -7,12 +7,16 @@ use mathlib.Core.List.{List}
 use lib.Dec.{leb}
 use lib.ListN.{length, take}
 use Rattle.model.specs.Seats.{find}
+use Rattle.model.specs.Accepted.{acceptedHead}
+use Rattle.model.specs.declared.Head.{Head}
+use Rattle.model.specs.declared.Things.{Things}
 use Rattle.records.specs.Bytes.{number2}
 use Rattle.records.specs.Reading.{Read, got, fault}
-use Rattle.records.specs.Front.{Refusal}
+use Rattle.records.specs.Front.{Refusal, against, inRecord}
 use Rattle.records.specs.declared.RecordAnswer.{RecordAnswer}
 use Rattle.records.specs.declared.RecordAnswer.the-variants.{Record, Refused}
-use Rattle.matrix_records.specs.Content.{ThingRecord, CellRecord}
+use Rattle.matrix_records.specs.Content.{ThingRecord, CellRecord, listed}
+use Rattle.matrix_records.specs.Read.{head, thing, cell}
 use Rattle.matrix_records.specs.declared.answers.HeadAt.{HeadAt}
 use Rattle.matrix_records.specs.declared.answers.HeadAt.the-variants as head-at
 use Rattle.matrix_records.specs.declared.answers.ThingAt.{ThingAt}
@@ -50,3 +54,15 @@ placeIn n ids c = find (take n ids) (c .row) * 48 + find (take n ids) (c .column
 abbrev pub asCellAt : ℕ → List ℕ → ℕ → Read ℕ Refusal CellRecord → CellAt
 asCellAt n ids kind (got c next) = cell-at.Good kind (c .row) (c .column) (placeIn n ids c) (c .rights) next
 asCellAt n ids kind (fault f) = cell-at.Refused (f .number) (f .at)
+
+-- the functions: each record against a scheme's head, over the kinds that may stand there; a cell is one of the first n things' and stands behind a
+-- cell at a row and a column
+unfoldable pub readHead : List ℕ → ℕ → ℕ → Head → HeadAt
+readHead s at kinds h = asHeadAt (kindAt s at) (against (acceptedHead h) (inRecord s kinds (λ kind. head h) at))
+
+unfoldable pub readThing : List ℕ → ℕ → ℕ → Head → ℕ → ThingAt
+readThing s at kinds h last = asThingAt (kindAt s at) (against (acceptedHead h) (inRecord s kinds (λ kind. thing h last) at))
+
+unfoldable pub readCell : List ℕ → ℕ → ℕ → Head → Things → ℕ → CellRecord → CellAt
+readCell s at kinds h th n last =
+    asCellAt n (th .ids) (kindAt s at) (against (acceptedHead h) (inRecord s kinds (λ kind. cell h (listed n th) last) at))

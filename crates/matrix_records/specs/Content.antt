@@ -1,7 +1,9 @@
 -- What a matrix's records say: a thing with its id, and a cell with its row's and its column's ids; and the things in memory, each with its id.
 -- Assumes nothing.
 use Prim.Native.Nat.{ℕ, zero, suc}
+use mathlib.Core.Bool.{cond}
 use mathlib.Core.List.{List, [], _∷_}
+use lib.Dec.{eqb}
 use lib.ListN.{take, getD}
 use Rattle.model.specs.Scheme.{noType}
 use Rattle.model.specs.Request.{Thing, ofType}
@@ -24,7 +26,7 @@ recordIn th i = record { id = getD (th .ids) i 0; thing = thingIn th i }
 abbrev pub nobody : ThingRecord
 nobody = record { id = 0; thing = ofType noType }
 
--- who sits at k seats from seat i on; at all seats; at the first n of them
+-- who sits at k seats from seat i on; at all seats
 unfoldable pub recordsFrom : Things → ℕ → ℕ → List ThingRecord
 recordsFrom th i zero = []
 recordsFrom th i (suc k) = recordIn th i ∷ recordsFrom th (suc i) k
@@ -32,5 +34,10 @@ recordsFrom th i (suc k) = recordIn th i ∷ recordsFrom th (suc i) k
 unfoldable pub seated : Things → List ThingRecord
 seated th = recordsFrom th 0 48
 
+-- the things at the first n seats; at a free seat there is none
+unfoldable pub taken : List ThingRecord → List ThingRecord
+taken [] = []
+taken (t ∷ ts) = cond (eqb (t .id) 0) (taken ts) (t ∷ taken ts)
+
 unfoldable pub listed : ℕ → Things → List ThingRecord
-listed n th = take n (seated th)
+listed n th = taken (take n (seated th))

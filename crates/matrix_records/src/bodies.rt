@@ -108,6 +108,9 @@ fn seat_at(b: &[u8], i: usize, th: Things, n: usize) -> SeatAt
     let Field2::Value(id) = found else {
         return SeatAt::Fault(found.number());
     };
+    if id == 0 {
+        return SeatAt::Fault(5);
+    }
     let seat = things::seat_in(ids, n, id);
     if n <= seat {
         return SeatAt::Fault(5);

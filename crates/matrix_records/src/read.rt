@@ -6,16 +6,14 @@ use crate::answers::ThingAt;
 use crate::bodies::cell_of;
 use crate::bodies::head_of;
 use crate::bodies::thing_of;
+use accepted::head_accepted;
 use model::Head;
 use model::Things;
 use records::Field2;
 use records::Kinds;
 use records::RecordAnswer;
 ghost use mathlib.Core.Path.{_≡_};
-ghost use Rattle.records.specs.Front.{inRecord};
-ghost use Rattle.matrix_records.specs.Content.{listed};
-ghost use Rattle.matrix_records.specs.Read.{head, thing, cell};
-ghost use Rattle.matrix_records.specs.Answers.{kindAt, anyRecordAt, asHeadAt, asThingAt, asCellAt, lastOf};
+ghost use Rattle.matrix_records.specs.Answers.{anyRecordAt, readHead, readThing, readCell, lastOf};
 
 // The record that stands at a position, whatever its kind: front (1), body's end (1).
 pub fn any_record_at(s: &[u8], at: usize) -> RecordAnswer
@@ -37,10 +35,13 @@ pub fn any_record_at(s: &[u8], at: usize) -> RecordAnswer
     RecordAnswer::Record { kind, start, len }
 }
 
-// The head's record, against a scheme's head.
+// The head's record, against a scheme's head: 27 for one that no reading gives, here and below.
 pub fn read_head(s: &[u8], at: usize, kinds: Kinds, h: Head) -> HeadAt
-    ensures { λ r. ⌜ r ≡ asHeadAt (kindAt (now (s .entry)) at) (inRecord (now (s .entry)) (kinds .0) (λ kind. head h) at) ⌝ }
+    ensures { λ r. ⌜ r ≡ readHead (now (s .entry)) at (kinds .0) h ⌝ }
 {
+    if !head_accepted(h) {
+        return HeadAt::Refused { number: 27, at: 0 };
+    }
     let found = records::record_at(s, at, kinds);
     let RecordAnswer::Record { kind, start, len } = found else {
         return HeadAt::Refused {
@@ -58,8 +59,11 @@ pub fn read_head(s: &[u8], at: usize, kinds: Kinds, h: Head) -> HeadAt
 
 // A thing's record, behind a thing with this id, 0 for none.
 pub fn read_thing(s: &[u8], at: usize, kinds: Kinds, h: Head, last: u16) -> ThingAt
-    ensures { λ r. ⌜ r ≡ asThingAt (kindAt (now (s .entry)) at) (inRecord (now (s .entry)) (kinds .0) (λ kind. thing h last) at) ⌝ }
+    ensures { λ r. ⌜ r ≡ readThing (now (s .entry)) at (kinds .0) h last ⌝ }
 {
+    if !head_accepted(h) {
+        return ThingAt::Refused { number: 27, at: 0 };
+    }
     let found = records::record_at(s, at, kinds);
     let RecordAnswer::Record { kind, start, len } = found else {
         return ThingAt::Refused {
@@ -86,8 +90,11 @@ pub fn read_cell(
     over: u16,
     by: u16,
 ) -> CellAt
-    ensures { λ r. ⌜ r ≡ asCellAt n (th .ids) (kindAt (now (s .entry)) at) (inRecord (now (s .entry)) (kinds .0) (λ kind. cell h (listed n th) (lastOf over by)) at) ⌝ }
+    ensures { λ r. ⌜ r ≡ readCell (now (s .entry)) at (kinds .0) h th n (lastOf over by) ⌝ }
 {
+    if !head_accepted(h) {
+        return CellAt::Refused { number: 27, at: 0 };
+    }
     let found = records::record_at(s, at, kinds);
     let RecordAnswer::Record { kind, start, len } = found else {
         return CellAt::Refused {

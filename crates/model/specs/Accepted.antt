@@ -31,6 +31,9 @@ headFault h =
     orElse must (within (h .types) (h .subjects .0)) 6
     orElse must (between 1 32 (h .count)) 4
 
+abbrev pub acceptedHead : Head → Bool
+acceptedHead h = passes (headFault h)
+
 -- ---- a command: its parameters' number (4) and types (5), its tests, its operations
 unfoldable pub typeRange : Head → ThingType → Fault
 typeRange h t = must (typeBelow t (h .types)) 5
@@ -126,7 +129,7 @@ acceptedCommand h c = passes (commandFault h c) && paddedCommand c
 
 unfoldable pub acceptedScheme : Scheme → Bool
 acceptedScheme s =
-    passes (headFault (s .head)) && all (acceptedCommand (s .head)) (commandsOf s) && padded zeroCommand 32 (s .head .count) (s .commands)
+    acceptedHead (s .head) && all (acceptedCommand (s .head)) (commandsOf s) && padded zeroCommand 32 (s .head .count) (s .commands)
 
 -- ---- a matrix of a scheme
 

@@ -45,6 +45,10 @@ pub record Refusal : Type 0 where
   pub number : ℕ
   pub at : ℕ
 
+-- a reading against something that was handed in: 27 at position 0, before all other checks, where no reading gives it
+abbrev pub against : {A : Type 0} → Bool → Read ℕ Refusal A → Read ℕ Refusal A
+against given read = cond given read (fault (record { number = 27; at = 0 }))
+
 -- a record's refusal as that of what was to be read; it is asked of no record
 abbrev pub refusalOf : {A : Type 0} → RecordAnswer → Read ℕ Refusal A
 refusalOf (Record kind start len) = fault (record { number = 0; at = 0 })

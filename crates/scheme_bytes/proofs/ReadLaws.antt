@@ -2,16 +2,17 @@
 -- and what is behind it are the scheme. Assumes nothing.
 use Prim.Native.Nat.{ℕ, _-_, _<_, _≤_}
 use native.Mathlib.Omega.{arith}
-use mathlib.Core.Bool.{_&&_}
+use mathlib.Core.Bool.{true, false, _&&_}
 use mathlib.Core.List.{List, _++_}
 use mathlib.Core.Path.{_≡_, refl, ap, _∙_}
-use lib.Dec.{leb, ltb, ltb→lt}
+use lib.Dec.{T, leb, ltb, leb→le, ltb→lt}
 use lib.ListN.{length, replicate}
-use borrow.Author.Tests.{eq-eqb, ne-eqb, le-leb, lt-leb}
+use borrow.Author.Tests.{eq-eqb, ne-eqb}
 use Rattle.rights.specs.Sets.{within}
-use Rattle.laws.proofs.Bools.{and-right}
+use Rattle.laws.proofs.Bools.{is-true, and-left, and-right}
 use Rattle.laws.proofs.Differ.{constructors-differ}
 use Rattle.model.specs.Arrays.{noCommand, schemeOf}
+use Rattle.model.specs.Accepted.{acceptedHead}
 use Rattle.model.specs.declared.Command.{Command}
 use Rattle.model.specs.declared.Head.{Head}
 use Rattle.model.specs.declared.Scheme.{Scheme}
@@ -28,6 +29,7 @@ use Rattle.command_bytes.specs.Answers.{asHeadAt, readHead, asCommandAt, readCo
 use Rattle.command_bytes.specs.declared.answers.HeadAt.{HeadAt}
 use Rattle.command_bytes.specs.declared.answers.HeadAt.the-variants as head-at
 use Rattle.command_bytes.specs.declared.answers.CommandAnswer.{CommandAnswer}
+use Rattle.command_bytes.proofs.Trips.{fits-head}
 use Rattle.scheme_bytes.specs.Read.{commands, atEnd, scheme, schemeRest}
 use Rattle.scheme_bytes.specs.Answers.{asScheme, readScheme}
 use Rattle.scheme_bytes.specs.Inner.Answers.{asCommands, headFound, readRest}
@@ -54,14 +56,16 @@ as-refused : (m : Read ℕ Refusal Command) {r : CommandAnswer} {k q : ℕ} → 
 as-refused (got c n) {r} {k} {q} er e = let g : reading.Done n ≡ reading.Refused k q = rw er at e in constructors-differ (cc)
 as-refused (fault f) er e = refusal f (rw er at e)
 
-module _ (s : List ℕ) (at : ℕ) (h : Head) {r : CommandAnswer} (er : r ≡ readCommand s at h) where
-  pub one-done : {next : ℕ} → r .answer ≡ reading.Done next → commandAt s h at ≡ got (r .command) next
+module _ (s : List ℕ) (at : ℕ) (h : Head) (ok : T (acceptedHead h)) {r : CommandAnswer} (er : r ≡ readCommand s at h) where
+  opened : r ≡ asCommandAt (commandAt s h at)
   unfolding readCommand
-  one-done e = as-done (commandAt s h at) er e
+  opened = rw (is-true (acceptedHead h) ok) at er
+
+  pub one-done : {next : ℕ} → r .answer ≡ reading.Done next → commandAt s h at ≡ got (r .command) next
+  one-done e = as-done (commandAt s h at) opened e
 
   pub one-refused : {k q : ℕ} → r .answer ≡ reading.Refused k q → commandAt s h at ≡ fault (record { number = k; at = q })
-  unfolding readCommand
-  one-refused e = as-refused (commandAt s h at) er e
+  one-refused e = as-refused (commandAt s h at) opened e
 
 all-done : (m : Read ℕ Refusal (List Command)) {r : CommandsAnswer} {next : ℕ} → r ≡ asCommands m → r .answer ≡ reading.Done next →
     (cs : List Command) × (m ≡ got cs next) × (r .commands ≡ cs ++ replicate (32 - length cs) noCommand)
@@ -89,68 +93,79 @@ module _ (s : List ℕ) (table : Scheme) where
   head-refused k q = refl
 
   module _ (h : Head) (from : ℕ) where
-    pub many-commands : 32 < h .count → asScheme table (fault (record { number = 4; at = from })) ≡ readRest s (head-at.Good h from) table
+    pub no-head : acceptedHead h ≡ false → asScheme table (fault (record { number = 27; at = 0 })) ≡ readRest s (head-at.Good h from) table
     unfolding readRest
-    many-commands l = rw (lt-leb (h .count) 32 l)
+    no-head e = rw e
 
-    all-there : h .count ≤ 32 → {cs : List Command} {next : ℕ} → commands s h from ≡ got cs next → next ≡ length s →
+    all-there : acceptedHead h ≡ true → {cs : List Command} {next : ℕ} → commands s h from ≡ got cs next → next ≡ length s →
         record { answer = reading.Done next; scheme = record { head = h; commands = cs ++ replicate (32 - length cs) noCommand } } ≡
         readRest s (head-at.Good h from) table
     unfolding readRest schemeRest schemeOf
-    all-there l {cs} {next} d e = rw (le-leb (h .count) 32 l, d, end-there s next e)
+    all-there ok {cs} {next} d e = rw (ok, d, end-there s next e)
 
-    module _ (l : h .count ≤ 32) {r : CommandsAnswer} (er : r ≡ asCommands (commands s h from)) where
+    module _ (ok : acceptedHead h ≡ true) {r : CommandsAnswer} (er : r ≡ asCommands (commands s h from)) where
       pub bad-commands : (k q : ℕ) → r .answer ≡ reading.Refused k q →
           asScheme table (fault (record { number = k; at = q })) ≡ readRest s (head-at.Good h from) table
       unfolding readRest schemeRest
-      bad-commands k q f = rw (le-leb (h .count) 32 l, all-refused (commands s h from) er f)
+      bad-commands k q f = rw (ok, all-refused (commands s h from) er f)
 
       module _ (next : ℕ) (f : r .answer ≡ reading.Done next) where
         pub bytes-behind : (next ≡ length s → ⊥) →
             asScheme table (fault (record { number = 8; at = next })) ≡ readRest s (head-at.Good h from) table
         unfolding readRest schemeRest
-        bytes-behind n = rw (le-leb (h .count) 32 l, all-done (commands s h from) er f .1, end-before s next n)
+        bytes-behind n = rw (ok, all-done (commands s h from) er f .1, end-before s next n)
 
         pub no-bytes-behind : next ≡ length s →
             record { answer = reading.Done next; scheme = record { head = h; commands = r .commands } } ≡ readRest s (head-at.Good h from) table
         no-bytes-behind e =
             let (cs, d, z) = all-done (commands s h from) er f in
-            ap (λ (x : List Command). record { answer = reading.Done next; scheme = record { head = h; commands = x } }) z ∙ all-there l d e
+            ap (λ (x : List Command). record { answer = reading.Done next; scheme = record { head = h; commands = x } }) z ∙ all-there ok d e
 
--- ---- a head that was read has no more commands than a scheme
-field-below : (low limit k : ℕ) (r : List ℕ) {v : ℕ} {t : List ℕ} → field low limit k r ≡ got v t → v < limit
+-- ---- a head that was read is accepted
+field-in : (low limit k : ℕ) (r : List ℕ) {v : ℕ} {t : List ℕ} → field low limit k r ≡ got v t → (low ≤ v) × (v < limit)
 unfolding field
-field-below low limit k r {v} e =
+field-in low limit k r {v} e =
     let m = bind-got (byte r) (λ v. check (leb low v && ltb v limit) k >> done v) e in
     let d = bind-got (check (leb low (m .0) && ltb (m .0) limit) k (m .1)) (λ u. done (m .0)) (m .3) in
     let t = check-got (leb low (m .0) && ltb (m .0) limit) k (m .1) (d .2) .0 in
-    rw (← (got-value (d .3))) (ltb→lt (m .0) limit (and-right (leb low (m .0)) (ltb (m .0) limit) t))
+    let a = and-left (leb low (m .0)) (ltb (m .0) limit) t in
+    let b = and-right (leb low (m .0)) (ltb (m .0) limit) t in
+    rw (← (got-value (d .3))) (leb→le low (m .0) a, ltb→lt (m .0) limit b)
 
 record Gives {A : Type 0} (P : A → Type 0) (p : Body A) : Type 0 where
   shown : (r : List ℕ) {a : A} {s : List ℕ} → p r ≡ got a s → P a
 
-gives-then : {A B : Type 0} {P : B → Type 0} (p : Body A) {q : A → Body B} → ((a : A) → Gives P (q a)) → Gives P (p >>= q)
-gives-then p {q} g = record { shown = λ r e. let m = bind-got (p r) q e in g (m .0) .shown (m .1) (m .3) }
+gives-then : {A B : Type 0} {P : B → Type 0} (p : Body A) {q : A → Body B} → ((a : A) (r s : List ℕ) → p r ≡ got a s → Gives P (q a)) →
+    Gives P (p >>= q)
+gives-then p {q} g = record { shown = λ r e. let m = bind-got (p r) q e in g (m .0) r (m .1) (m .2) .shown (m .1) (m .3) }
 
-few-commands : Gives (λ (h : Head). h .count ≤ 32) head
+good-head : Gives (λ (h : Head). T (acceptedHead h)) head
 unfolding head
-few-commands =
-    gives-then (field 1 65 4) λ n. gives-then (field 1 17 4) λ m. gives-then (number 2) λ s. gives-then (check (within m s) 6) λ u. record {
+good-head =
+    gives-then (field 1 65 4) λ n a b en. gives-then (field 1 17 4) λ m c d em.
+    gives-then (number 2) λ s f g es. gives-then (check (within m s) 6) λ u i j eu. record {
       shown = λ r e.
-          let d = bind-got (field 1 33 4 r) (λ c. done (record { rights = n; types = m; subjects = record { 0 = s }; count = c })) e in
-          let l = field-below 1 33 4 r (d .2) in
-          rw (← (got-value (d .3))) (omega arith);
+          let last = bind-got (field 1 33 4 r) (λ c. done (record { rights = n; types = m; subjects = record { 0 = s }; count = c })) e in
+          let rights = field-in 1 65 4 a en in
+          let types = field-in 1 17 4 c em in
+          let count = field-in 1 33 4 r (last .2) in
+          rw (← (got-value (last .3))) (fits-head _ (record {
+            rights = omega arith;
+            types = omega arith;
+            subjects = check-got (within m s) 6 i eu .0;
+            count = omega arith;
+          }));
     }
 
 -- ---- the head and what is behind it are the scheme
-found-back : (m : Read ℕ Refusal Head) → ((h : Head) (next : ℕ) → m ≡ got h next → h .count ≤ 32) → headFound (asHeadAt m) ≡ m
-found-back (got h next) few = rw (le-leb (h .count) 32 (few h next refl))
-found-back (fault f) few = refl
+found-back : (m : Read ℕ Refusal Head) → ((h : Head) (next : ℕ) → m ≡ got h next → T (acceptedHead h)) → headFound (asHeadAt m) ≡ m
+found-back (got h next) good = rw (is-true (acceptedHead h) (good h next refl))
+found-back (fault f) good = refl
 
 pub read-both : (s : List ℕ) (table : Scheme) → readRest s (readHead s 0) table ≡ readScheme s table
 unfolding readRest readHead readScheme scheme
 read-both s table =
     rw (
     found-back (headAt s 0) λ h next e.
-    let (kind, start, len, f, g, z) = in-record-back s 2 (λ kind. head) 0 e in few-commands .shown (part s start len) g
+    let (kind, start, len, f, g, z) = in-record-back s 2 (λ kind. head) 0 e in good-head .shown (part s start len) g
     )

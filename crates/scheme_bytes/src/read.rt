@@ -1,6 +1,7 @@
 // Reading a scheme on a slice and a position: its commands one by one, and what is behind its head.
 use crate::answers::CommandsAnswer;
 use crate::answers::SchemeAnswer;
+use accepted::head_accepted;
 use command_bytes::HeadAt;
 use command_bytes::no_command;
 use command_bytes::read_command;
@@ -8,7 +9,8 @@ use model::Head;
 use model::Scheme;
 use records::Reading;
 ghost use mathlib.Core.Path.{_≡_};
-ghost use Prim.Native.Nat.{_≤_};
+ghost use lib.Dec.{T};
+ghost use Rattle.model.specs.Accepted.{acceptedHead};
 ghost use Rattle.records.specs.Reading.{fault};
 ghost use Rattle.scheme_bytes.specs.Read.{commands};
 ghost use Rattle.scheme_bytes.specs.Answers.{asScheme};
@@ -25,7 +27,7 @@ fn no_commands(number: u8, at: usize) -> CommandsAnswer
 }
 
 fn read_commands(s: &[u8], at: usize, h: Head) -> CommandsAnswer
-    requires { ⌜ h .count ≤ 32 ⌝ }
+    requires { ⌜ T (acceptedHead h) ⌝ }
     ensures { λ r. ⌜ r ≡ asCommands (commands (now (s .entry)) h at) ⌝ }
 {
     let n = h.count as usize;
@@ -66,8 +68,8 @@ pub(crate) fn read_rest(s: &[u8], found: HeadAt, table: Scheme) -> SchemeAnswer
     let HeadAt::Good { head, next: from } = found else {
         return refused(found.number(), found.at(), table);
     };
-    if Scheme::LIMIT < head.count {
-        return refused(4, from, table);
+    if !head_accepted(head) {
+        return refused(27, 0, table);
     }
     let read = read_commands(s, from, head);
     let commands = read.commands;

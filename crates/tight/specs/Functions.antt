@@ -55,7 +55,7 @@ pub record Accepted (M : Type 1) : Type 2 where
   pub type-at : Tight M accepted.type_at.ended accepted.type_at.clauses
   pub command-accepted : Tight M accepted.command_accepted.ended accepted.command_accepted.clauses
   pub command-fault : Tight M accepted.command_fault.ended accepted.command_fault.clauses
-  pub head-fault : Tight M accepted.head_fault.ended accepted.head_fault.clauses
+  pub head-accepted : Tight M accepted.head_accepted.ended accepted.head_accepted.clauses
   pub scheme-accepted : Tight M accepted.scheme_accepted.ended accepted.scheme_accepted.clauses
   pub Checked-number : Tight M accepted.checked.Checked.number.ended accepted.checked.Checked.number.clauses
   pub creatable : Tight M accepted.creatable.ended accepted.creatable.clauses

@@ -35,7 +35,10 @@ pub fn say(task: &Task, scheme: &SchemeValue, seats: &Seats, lent: usize) -> Sai
         Task::Seats { first, id } => Said::default()
             .value("things::seat_in", seats.seat_in(*first, *id))
             .value("things::seat_of", seats.seat_in(u64::MAX, *id)),
-        Task::At(at) => at_position::say(at, &scheme.head(), seats),
+        Task::At(at) => {
+            let head = Some(scheme.head()).filter(|_| scheme.head_fault() == 0);
+            at_position::say(at, head.as_ref(), seats)
+        }
         _ => say_of_numbers(task),
     }
 }
@@ -61,8 +64,7 @@ fn say_of_numbers(task: &Task) -> Said {
 fn accepted(scheme: &SchemeValue, seats: &Seats, lent: usize) -> Said {
     let head = scheme.head();
     Said::default()
-        .gave("accepted::head_fault", scheme.head_fault())
-        .through("accepted::Checked::number", scheme.head_fault())
+        .flag("accepted::head_accepted", scheme.head_fault() == 0)
         .flag("accepted::scheme_accepted", scheme.scheme().is_some())
         .flag(
             "accepted_matrix::things_accepted",

@@ -12,8 +12,8 @@ use crate::refusal::{Found, Refusal};
 use crate::request::{read_request, Next, MOST_IDS};
 use crate::scheme::{find_head, Scheme};
 
-/// `head` is a scheme's head, with no commands.
-pub fn say(asked: &At, head: &Scheme, seats: &Seats) -> Said {
+/// `head` is a scheme's head, with no commands; none where no reading gives it.
+pub fn say(asked: &At, head: Option<&Scheme>, seats: &Seats) -> Said {
     let (bytes, at) = (&asked.bytes[..], asked.at as usize);
     match &asked.what {
         Read::Request => whole_request(bytes, at),
@@ -155,36 +155,38 @@ fn scheme_head(bytes: &[u8], at: usize) -> Said {
     )
 }
 
-/// The record's kind, what `read` makes of it, and the next position.
+/// The record's kind, what `read` makes of it against the head, and the next position.
 fn told(
     bytes: &[u8],
     at: usize,
     context: &Context,
-    read: impl Fn(Record) -> Result<Vec<u64>, Found>,
+    head: Option<&Scheme>,
+    read: impl Fn(Record, &Scheme) -> Result<Vec<u64>, Found>,
 ) -> Result<Vec<u64>, Refusal> {
+    let head = head.ok_or(Refusal { number: 27, at: 0 })?;
     let record = Record::read_of(bytes, at, |kind| has_kind(context.kinds, kind))?;
     let (kind, next) = (record.kind.into(), record.next as u64);
-    Ok([&[kind], &read(record)?[..], &[next]].concat())
+    Ok([&[kind], &read(record, head)?[..], &[next]].concat())
 }
 
-fn matrix_head(bytes: &[u8], at: usize, context: &Context, scheme: &Scheme) -> Said {
+fn matrix_head(bytes: &[u8], at: usize, context: &Context, head: Option<&Scheme>) -> Said {
     let methods = [
         "matrix_records::HeadAt::number",
         "matrix_records::HeadAt::at",
     ];
-    let found = told(bytes, at, context, |record| {
+    let found = told(bytes, at, context, head, |record, scheme| {
         Ok(vec![read_head(record, scheme)?.into()])
     });
     Said::default().answer("matrix_records::read_head", methods, found)
 }
 
 /// Its id and type.
-fn thing(bytes: &[u8], at: usize, context: &Context, scheme: &Scheme) -> Said {
+fn thing(bytes: &[u8], at: usize, context: &Context, head: Option<&Scheme>) -> Said {
     let methods = [
         "matrix_records::ThingAt::number",
         "matrix_records::ThingAt::at",
     ];
-    let found = told(bytes, at, context, |record| {
+    let found = told(bytes, at, context, head, |record, scheme| {
         let (id, kind) = read_thing(record, scheme, context.last.0)?;
         Ok(vec![id.into(), kind.into()])
     });
@@ -192,13 +194,13 @@ fn thing(bytes: &[u8], at: usize, context: &Context, scheme: &Scheme) -> Said {
 }
 
 /// Its row and column, where it is kept, and its rights.
-fn cell(bytes: &[u8], at: usize, context: &Context, scheme: &Scheme, seats: &Seats) -> Said {
+fn cell(bytes: &[u8], at: usize, context: &Context, head: Option<&Scheme>, seats: &Seats) -> Said {
     let methods = [
         "matrix_records::CellAt::number",
         "matrix_records::CellAt::at",
     ];
     let Context { last, things, .. } = *context;
-    let found = told(bytes, at, context, |record| {
+    let found = told(bytes, at, context, head, |record, scheme| {
         let type_of = |id| seats.type_of(things, id);
         let (row, column, rights) = read_cell(record, scheme, type_of, last)?;
         let place = seats.seat_in(things, row) * SEATS + seats.seat_in(things, column);

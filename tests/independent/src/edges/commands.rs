@@ -95,23 +95,35 @@ fn positions() -> Vec<Case> {
     cases
 }
 
-/// Retire has types 0 and 1, and names the rights 0 and 2. A head is taken as it is handed in.
+/// Retire has types 0 and 1, and names the rights 0 and 2. Against a head that no reading gives it is 27, and so is what stands past the end.
 fn other_heads() -> Vec<Case> {
     let heads = [
         ("rights-0", (0, 3, 3, 2), None),
         ("rights-2", (2, 3, 3, 2), None),
         ("rights-3", (3, 3, 3, 2), None),
+        ("rights-64", (64, 3, 3, 2), Some((23, 63))),
+        ("rights-65", (65, 3, 3, 2), None),
         ("rights-255", (255, 3, 3, 2), Some((23, 254))),
         ("types-0", (4, 0, 3, 2), None),
         ("types-1", (4, 1, 3, 2), None),
         ("types-2", (4, 2, 3, 2), None),
+        ("types-16", (4, 16, 3, 2), Some((15, 15))),
+        ("types-17", (4, 17, 3, 2), None),
         ("types-255", (4, 255, 3, 2), Some((15, 254))),
         ("types-255-as-row", (4, 255, 65_535, 2), Some((14, 16))),
         ("subjects-0", (4, 3, 0, 2), None),
         ("subjects-1", (4, 3, 1, 2), None),
+        ("subjects-8", (4, 3, 8, 2), None),
         ("commands-0", (4, 3, 3, 0), None),
+        ("commands-32", (4, 3, 3, 32), None),
+        ("commands-33", (4, 3, 3, 33), None),
         ("commands-255", (4, 3, 3, 255), None),
     ];
+    let past_end = Task::ReadCommand {
+        place: 31,
+        bytes: KEY_SCHEME.to_vec(),
+        at: 48,
+    };
     let ask = |(label, (n, m, subjects, count), change)| {
         let changes: Vec<(usize, u8)> = Option::into_iter(change).collect();
         let bytes = changed(&KEY_SCHEME, &changes, 47);
@@ -120,6 +132,7 @@ fn other_heads() -> Vec<Case> {
         [
             named("head", Task::SetHead(n, m, subjects, count)),
             named("read", Task::ReadCommand { place, bytes, at }),
+            named("past-end", past_end.clone()),
             named("accepted", Task::CommandAccepted(0)),
         ]
     };

@@ -208,7 +208,8 @@ impl State {
 
     /// Where it is refused, the command of zeros is put there.
     fn read_command(&mut self, place: usize, bytes: &[u8], at: usize) -> Result<usize, Refusal> {
-        let read = find_command(bytes, at, &self.scheme.head());
+        let head = self.head().map_err(|number| Refusal { number, at: 0 });
+        let read = head.and_then(|head| Ok(find_command(bytes, at, &head)?));
         let command = read.as_ref().map(|(command, _)| CommandValue::of(command));
         self.scheme.commands[place] = command.unwrap_or(CommandValue::none());
         Ok(read?.1)

@@ -225,9 +225,15 @@ fn put(seat: u64, id: u16, kind: u8) -> Case {
     case(format!("part-seat-{seat}-{id}-{kind}"), task)
 }
 
-/// Only the things at the first seats count, and of two with one id the first.
+/// Only the things at the first seats count, and of two with one id the first; a free seat is no thing, so that id 0 is unknown wherever it stands.
 fn among_things() -> Vec<Case> {
     let mut cases = Vec::new();
+    for things in [3, 4, 48] {
+        let row = part(27).of(&[(31, 0)]).among(things);
+        cases.push(row.case(&format!("cell-row-0-among-{things}")));
+        let column = part(27).of(&[(33, 0)]).among(things);
+        cases.push(column.case(&format!("cell-column-0-among-{things}")));
+    }
     for things in [0, 1, 2, 3, 4, 48, 49, u64::MAX] {
         for at in [27, 43] {
             let here = part(at).among(things);
@@ -258,7 +264,8 @@ fn among_things() -> Vec<Case> {
     cases
 }
 
-/// A head is taken as it is handed in: n from 0 to 255, m from 0 to 255, any subject types.
+/// Heads that a reading gives and heads that none does (27 at 0, whatever stands there): n, m, the subject types and the number of commands at their
+/// limits and behind them.
 fn of_heads() -> Vec<Case> {
     let mut cases = Vec::new();
     for n in [0, 1, 63, 64, 65, 255] {
@@ -273,7 +280,7 @@ fn of_heads() -> Vec<Case> {
             cases.push(cell.case(&format!("cell-right-{name}-of-{n}")));
         }
     }
-    for m in [0, 1, 2, 255] {
+    for m in [0, 1, 2, 16, 17, 255] {
         let label = format!("part-head-types-{m}");
         cases.push(case(label, Task::SetHead(4, m, 3, 2)));
         for kind in [0, 1, 254, 255] {
@@ -281,7 +288,16 @@ fn of_heads() -> Vec<Case> {
             cases.push(thing.case(&format!("thing-type-{kind}-of-{m}")));
         }
     }
-    for subjects in [0, 1, 2, 65_535] {
+    for count in [0, 1, 32, 33, 255] {
+        let label = format!("part-head-commands-{count}");
+        cases.push(case(label, Task::SetHead(4, 3, 3, count)));
+        for at in [0, 13, 27] {
+            cases.push(part(at).case(&format!("at-{at}-commands-{count}")));
+            let past = Part { at: 60, ..part(at) };
+            cases.push(past.case(&format!("past-end-of-{at}-commands-{count}")));
+        }
+    }
+    for subjects in [0, 1, 2, 7, 8, 65_535] {
         let label = format!("part-head-subjects-{subjects}");
         cases.push(case(label, Task::SetHead(4, 3, subjects, 2)));
         for at in [27, 43] {

@@ -12,7 +12,14 @@ use crate::scheme::{read_scheme, write_scheme, Command, Operation, Scheme, Test}
 type Stranger = (String, Vec<Task>);
 
 pub fn cases() -> Vec<Case> {
-    let schemes = [heads(), counts(), behind_lists(), behind_commands(), forms()].concat();
+    let schemes = [
+        heads(),
+        counts(),
+        behind_lists(),
+        behind_commands(),
+        forms(),
+    ]
+    .concat();
     let mut cases = Vec::new();
     for (label, tasks) in schemes {
         cases.extend(made(&label, tasks));
@@ -44,7 +51,14 @@ fn full_matrix() -> Vec<u8> {
     for (id, kind) in [(5, 0), (9, 1), (12, 2)] {
         matrix.create(&scheme, id, kind);
     }
-    let cells = [(5, 5, 8), (5, 9, 1), (5, 12, 4), (9, 5, 2), (9, 9, 9), (9, 12, 6)];
+    let cells = [
+        (5, 5, 8),
+        (5, 9, 1),
+        (5, 12, 4),
+        (9, 5, 2),
+        (9, 9, 9),
+        (9, 12, 6),
+    ];
     for (row, column, rights) in cells {
         matrix.set_cell(row, column, rights);
     }
@@ -139,7 +153,10 @@ fn behind_lists() -> Vec<Stranger> {
         let mut scheme = key_scheme();
         scheme.commands[0] = more;
         let read = Task::ReadScheme(write_scheme(&scheme));
-        stranger(&format!("behind-{label}"), vec![read, set(RETIRE, [2, 1, 1])])
+        stranger(
+            &format!("behind-{label}"),
+            vec![read, set(RETIRE, [2, 1, 1])],
+        )
     };
     let retire = key_scheme().commands[0].clone();
     let kind = |kind| {
@@ -182,7 +199,10 @@ fn behind_lists() -> Vec<Stranger> {
         left("operations-right", enter(1, 0, 0)),
         left("operations-row", enter(0, 1, 0)),
         left("operations-column", enter(0, 0, 1)),
-        left("operations-destroy", operation(Operation::Destroy { parameter: 0 })),
+        left(
+            "operations-destroy",
+            operation(Operation::Destroy { parameter: 0 }),
+        ),
     ]
 }
 
@@ -233,17 +253,15 @@ fn behind_commands() -> Vec<Stranger> {
 fn forms() -> Vec<Stranger> {
     let load = |label: &str, count: u8, operations: &[[u8; 4]]| {
         let places = operations.iter().enumerate();
-        let tasks = places.map(|(place, operation)| {
-            set_operation(LOAD, [2, 2, count], place as u8, *operation)
-        });
+        let tasks = places
+            .map(|(place, operation)| set_operation(LOAD, [2, 2, count], place as u8, *operation));
         stranger(label, tasks.collect())
     };
     let without_tests = |label: &str, operations: &[[u8; 4]]| {
         let count = operations.len() as u8;
         let places = operations.iter().enumerate();
-        let tasks = places.map(|(place, operation)| {
-            set_operation(LOAD, [2, 0, count], place as u8, *operation)
-        });
+        let tasks = places
+            .map(|(place, operation)| set_operation(LOAD, [2, 0, count], place as u8, *operation));
         stranger(label, tasks.collect())
     };
     vec![
@@ -337,7 +355,10 @@ fn matrices() -> Vec<Stranger> {
     vec![
         one("thing-at-3", thing(3, 20, 2)),
         one("thing-at-47", thing(47, 65_535, 1)),
-        stranger("cell-at-47", vec![thing(47, 40, 0), cell(2_303, 15), cell(1, 3)]),
+        stranger(
+            "cell-at-47",
+            vec![thing(47, 40, 0), cell(2_303, 15), cell(1, 3)],
+        ),
         one("type-at-free-3", thing(3, 0, 1)),
         one("type-at-free-47", thing(47, 0, 255)),
         one("id-5-twice", thing(3, 5, 0)),

@@ -1,39 +1,30 @@
--- A scheme is accepted if its head has no fault and its commands are accepted.
+-- A scheme is accepted if its head and its commands are.
 use mathlib.Core.Path.{sym, _∙_}
 use borrow.Author.Needs.{needs}
+use borrow.Author.Tests.{not-true, not-false}
 use Rattle.model.specs.Accepted.{acceptedScheme}
-use Rattle.accepted.proofs.SchemeLaws.{passed, refused}
 use Rattle.accepted.proofs.scheme.scheme_accepted.Statement.{statement}
 use Rattle.accepted.proofs.scheme.scheme_accepted.Tie as tie
 
-head-fault-requires : tie.Need-head-fault-requires
-head-fault-requires c κs = search needs
-
-enum-told : tie.Need-enum-told
-enum-told c = search needs
-
-enum-told-2 : tie.Need-enum-told-2
-enum-told-2 c = search needs
+head-accepted-requires : tie.Need-head-accepted-requires
+head-accepted-requires c κs = search needs
 
 returns : tie.Need-returns
 unfolding acceptedScheme
-returns c = rw (refused _ _ (sym (c .enum-told2 .given .1) ∙ c .before .before .head-fault .ensures))
+returns c = rw (sym (c .before .head-accepted .ensures) ∙ not-true _ (c .if1 .taken))
 
 commands-accepted-requires : tie.Need-commands-accepted-requires
 commands-accepted-requires c κs = search needs
 
 returns-2 : tie.Need-returns-2
 unfolding acceptedScheme
-returns-2 c =
-    c .commands-accepted .ensures ∙ rw (passed _ (sym (c .before .enum-told .given .1) ∙ c .before .before .before .head-fault .ensures))
+returns-2 c = let i = c .before in c .commands-accepted .ensures ∙ rw (sym (i .before .head-accepted .ensures) ∙ not-false _ (i .if1 .left))
 
 pub scheme-accepted-spec : {M : Type 1} → statement M
 scheme-accepted-spec =
     tie.close
     (tie.spec
-    head-fault-requires
-    enum-told
-    enum-told-2
+    head-accepted-requires
     returns
     commands-accepted-requires
     returns-2)

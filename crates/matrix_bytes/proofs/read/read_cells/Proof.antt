@@ -2,10 +2,12 @@
 -- Assumes nothing.
 use Prim.Native.Nat.{_-_, _<_}
 use native.Mathlib.Omega.{arith}
-use mathlib.Core.Path.{_≡_}
+use mathlib.Core.Path.{_≡_, _∙_}
+use lib.Dec.{T}
 use lib.ListN.{length}
 use borrow.Author.Needs.{needs}
-use Rattle.matrix_records.proofs.ReadBack.{cell-read, cell-stopped, cell-after, cell-place}
+use Rattle.model.specs.Accepted.{acceptedHead}
+use Rattle.matrix_records.proofs.ReadBack.{cell-opened, cell-read, cell-stopped, cell-after, cell-place}
 use Rattle.matrix_bytes.proofs.ReadCells.{CellRead, SoFar, far-none, far-on, far-stop, far-all}
 use Rattle.matrix_bytes.proofs.read.read_cells.Statement.{statement}
 use Rattle.matrix_bytes.proofs.read.read_cells.Tie as tie
@@ -19,11 +21,17 @@ abbrev μ-loop : tie.MeasureT-loop
 abbrev loop-at : tie.After-known-told Inv-loop μ-loop → tie.At-loop Inv-loop μ-loop
 loop-at c = c .before .before .before .before .before
 
+-- the head is accepted
+good : (c : tie.At-loop Inv-loop μ-loop) → T (acceptedHead (c .before .before .before .args .h))
+good c = c .before .before .before .pre .0
+
 -- the cell of a turn, and that its place is one of the 2304
 read-one : (c : tie.After-known-told Inv-loop μ-loop) →
     let s = loop-at c in let a = s .before .before .before .args in let l = s .loop in let g = c .before .found .given .0 .1 in
     CellRead (a .s .now) (a .h) (a .th) (a .n) (l .over) (l .by) (l .p) (g .0) (g .1 .0) (g .1 .1 .0) (g .1 .1 .1 .0) (g .1 .1 .1 .1 .0)
-read-one c = let f = c .before in cell-read _ _ _ _ _ (f .before .before .read-cell .ensures) _ _ _ _ _ _ (f .found .given .1)
+read-one c =
+    let f = c .before in
+    cell-read _ _ _ _ _ (f .before .before .read-cell .ensures ∙ cell-opened _ _ _ _ (good (loop-at c)) _ _ _) _ _ _ _ _ _ (f .found .given .1)
 
 ids-long : (c : tie.Start Inv-loop μ-loop) → length (c .args .th .ids) ≡ 48
 ids-long c = search needs
@@ -32,7 +40,7 @@ near : (c : tie.After-known-told Inv-loop μ-loop) → c .before .found .given .
 near c = let (e, ep) = read-one c in rw ep (cell-place _ _ _ _ _ _ _ e (ids-long (loop-at c .before .before .before)))
 
 loop-holds : tie.Need-loop-holds Inv-loop μ-loop
-loop-holds c = let p = c .before .before .pre in (p .1, far-none _ _ _ _ _ _ (p .0))
+loop-holds c = let p = c .before .before .pre in (p .2, far-none _ _ _ _ _ _ (p .1))
 
 read-cell-requires : tie.Need-read-cell-requires Inv-loop μ-loop
 read-cell-requires c κs = search needs
@@ -56,7 +64,7 @@ returns : tie.Need-returns Inv-loop μ-loop
 returns c =
     let t = c .before .before in
     let r = t .before .before in
-    let e = cell-stopped _ _ _ _ _ (r .read-cell .ensures) _ _ _ _ (t .enum-told .given .1) (c .before .number .ensures) (c .at .ensures) in
+    let e = cell-stopped _ _ _ _ _ (r .read-cell .ensures ∙ cell-opened _ _ _ _ (good (r .before .before)) _ _ _) _ _ _ _ (t .enum-told .given .1) (c .before .number .ensures) (c .at .ensures) in
     far-stop _ _ _ _ _ _ (r .before .before .loop .inv .1) (r .before .loop-test .taken) _ _ e
 
 mul-cells : tie.Need-mul-cells Inv-loop μ-loop

@@ -6,13 +6,12 @@ use mathlib.Core.List.{List}
 use mathlib.Core.Path.{_≡_, sym, _∙_}
 use lib.ListN.{length}
 use borrow.Author.Needs.{needs}
-use Rattle.accepted.proofs.SchemeLaws.{passed, refused}
+use borrow.Author.Tests.{not-true, not-false}
 use Rattle.laws.proofs.Bools.{from-true}
-use Rattle.laws.specs.Check.{passes}
-use Rattle.matrix_records.proofs.ReadBack.{head-read, head-stopped}
+use Rattle.matrix_records.proofs.ReadBack.{head-opened, head-read, head-stopped}
 use Rattle.matrix_records.proofs.Trips.{head-sized}
 use Rattle.matrix_records.specs.Content.{ThingRecord}
-use Rattle.model.specs.Accepted.{headFault}
+use Rattle.model.specs.Accepted.{acceptedHead}
 use Rattle.records.proofs.Trip.{Bytes}
 use Rattle.records.specs.Reading.{got}
 use Rattle.matrix_bytes.specs.Content.{thingsFrom}
@@ -22,29 +21,29 @@ use Rattle.matrix_bytes.proofs.read.read_matrix_by_head.Statement.{stat
 use Rattle.matrix_bytes.proofs.read.read_matrix_by_head.Tie as tie
 
 -- from the things back to the head, to the scheme's head that passed and to the start
-abbrev start : tie.After-enum-told → tie.Start
-start c = c .before .before .before .before .before .before
+abbrev start : tie.Else2 → tie.Start
+start c = c .before .before .before .before .before
 
-abbrev passed-at : tie.After-known-told → tie.After-enum-told
+abbrev passed-at : tie.After-known-told → tie.Else2
 passed-at c = c .before .before .before .before
 
 abbrev head-at : tie.After-known-told2 → tie.After-known-told
 head-at c = c .before .before .before .before .before
 
 -- what is known once it has
-ok : (c : tie.After-enum-told) → passes (headFault (start c .args .h)) ≡ true
-ok c = passed _ (sym (c .enum-told .given .1) ∙ c .before .before .head-fault .ensures)
+ok : (c : tie.Else2) → acceptedHead (start c .args .h) ≡ true
+ok c = sym (c .before .head-accepted .ensures) ∙ not-false _ (c .if2 .left)
 
-room : (c : tie.After-enum-told) → length (start c .args .cells .now) ≡ 2304
-room c = c .before .before .before .if1 .left
+room : (c : tie.Else2) → length (start c .args .cells .now) ≡ 2304
+room c = c .before .before .if1 .left
 
-bytes : (c : tie.After-enum-told) → Bytes (start c .args .s .now)
-bytes c = λ i. c .before .before .before .before .before .shared-slice-known .given i .fits
+bytes : (c : tie.Else2) → Bytes (start c .args .s .now)
+bytes c = λ i. c .before .before .before .before .shared-slice-known .given i .fits
 
 -- once the head is read
 head-is : (c : tie.After-known-told) → let a = start (passed-at c) .args in let f = c .before .head .given .0 in
     headRead (a .s .now) (a .h) ≡ got (f .1 .0) (f .1 .1 .0)
-head-is c = let f = c .before in head-read _ _ _ (f .before .before .read-head .ensures) _ _ _ (f .head .given .1)
+head-is c = let f = c .before in head-read _ _ _ (f .before .before .read-head .ensures ∙ head-opened _ _ _ _ (from-true (ok (passed-at c)))) _ _ _ (f .head .given .1)
 
 -- and once the things are
 things-are : (c : tie.After-known-told2) → let k = head-at c in let a = start (passed-at k) .args in let f = k .before .head .given .0 in
@@ -66,14 +65,8 @@ refused-requires c κs = search needs
 returns : tie.Need-returns
 returns c = matrix-room _ _ _ _ (c .before .if1 .taken) _ (c .refused .ensures)
 
-head-fault-requires : tie.Need-head-fault-requires
-head-fault-requires c κs = search needs
-
-enum-told : tie.Need-enum-told
-enum-told c = search needs
-
-enum-told-2 : tie.Need-enum-told-2
-enum-told-2 c = search needs
+head-accepted-requires : tie.Need-head-accepted-requires
+head-accepted-requires c κs = search needs
 
 refused-requires-2 : tie.Need-refused-requires-2
 refused-requires-2 c κs = search needs
@@ -81,7 +74,7 @@ refused-requires-2 c κs = search needs
 returns-2 : tie.Need-returns-2
 returns-2 c =
     let b = c .before in
-    matrix-head _ _ _ _ (refused _ _ (sym (b .enum-told2 .given .1) ∙ b .before .before .head-fault .ensures)) _ (c .refused2 .ensures)
+    matrix-head _ _ _ _ (sym (b .before .head-accepted .ensures) ∙ not-true _ (b .if2 .taken)) _ (c .refused2 .ensures)
 
 read-head-requires : tie.Need-read-head-requires
 read-head-requires c κs = search needs
@@ -89,8 +82,8 @@ read-head-requires c κs = search needs
 enum-known-head : tie.Need-enum-known-head
 enum-known-head c = search needs
 
-enum-told-3 : tie.Need-enum-told-3
-enum-told-3 c = search needs
+enum-told : tie.Need-enum-told
+enum-told c = search needs
 
 number-requires : tie.Need-number-requires
 number-requires c κs = search needs
@@ -106,17 +99,17 @@ returns-3 c =
     let a = c .before in
     let t = a .before .before in
     let r = t .before .before in
-    let e = head-stopped _ _ _ (r .read-head .ensures) _ _ _ _ (t .enum-told3 .given .1) (a .before .number .ensures) (a .at .ensures) in
+    let e = head-stopped _ _ _ (r .read-head .ensures ∙ head-opened _ _ _ _ (from-true (ok (r .before)))) _ _ _ _ (t .enum-told .given .1) (a .before .number .ensures) (a .at .ensures) in
     matrix-no-head _ _ _ _ (ok (r .before)) (room (r .before)) _ _ _ (c .refused3 .ensures) e
 
 read-things-requires : tie.Need-read-things-requires
-read-things-requires c κs = search needs
+read-things-requires c κs = from-true (ok (passed-at c))
 
 enum-known-answer : tie.Need-enum-known-answer
 enum-known-answer c = search needs
 
-enum-told-4 : tie.Need-enum-told-4
-enum-told-4 c = search needs
+enum-told-2 : tie.Need-enum-told-2
+enum-told-2 c = search needs
 
 number-requires-2 : tie.Need-number-requires-2
 number-requires-2 c κs = search needs
@@ -134,14 +127,14 @@ returns-4 c =
     let r = t .before .before .before in
     let k = r .before in
     let p = passed-at k in
-    let e = things-bad _ _ (r .read-things .ensures) _ _ _ _ (t .enum-told4 .given .1) (a .before .number2 .ensures) (a .at2 .ensures) in
+    let e = things-bad _ _ (r .read-things .ensures) _ _ _ _ (t .enum-told2 .given .1) (a .before .number2 .ensures) (a .at2 .ensures) in
     matrix-no-things _ _ _ _ (ok p) (room p) _ _ _ (c .refused4 .ensures) _ _ (head-is k) e
 
 cast-finish : tie.Need-cast-finish
 cast-finish c = search needs
 
 finish-requires : tie.Need-finish-requires
-finish-requires c κs = (inside (c .before), room (passed-at (head-at (c .before))))
+finish-requires c κs = let p = passed-at (head-at (c .before)) in (from-true (ok p), inside (c .before), room p)
 
 same-length : tie.Need-same-length
 same-length c = search needs
@@ -161,21 +154,19 @@ read-matrix-by-head-spec =
     (tie.spec
     refused-requires
     returns
-    head-fault-requires
-    enum-told
-    enum-told-2
+    head-accepted-requires
     refused-requires-2
     returns-2
     read-head-requires
     enum-known-head
-    enum-told-3
+    enum-told
     number-requires
     at-requires
     refused-requires-3
     returns-3
     read-things-requires
     enum-known-answer
-    enum-told-4
+    enum-told-2
     number-requires-2
     at-requires-2
     refused-requires-4

@@ -3,11 +3,13 @@
 use Prim.Native.Nat.{_≤_, _-_}
 use native.Mathlib.Omega.{arith}
 use mathlib.Core.Path.{_≡_, _∙_}
+use lib.Dec.{T}
 use borrow.Author.Needs.{needs}
+use Rattle.model.specs.Accepted.{acceptedHead}
 use Rattle.records.specs.Front.{inRecord}
 use Rattle.records.proofs.Loop.{Looped, looped-none, looped-on, looped-stop, looped-all}
 use Rattle.matrix_records.specs.Read.{thing}
-use Rattle.matrix_records.proofs.ReadBack.{thing-read, thing-stopped}
+use Rattle.matrix_records.proofs.ReadBack.{thing-opened, thing-read, thing-stopped}
 use Rattle.matrix_bytes.specs.Content.{thingsFrom}
 use Rattle.matrix_bytes.proofs.ReadThings.{things-none, things-on}
 use Rattle.matrix_bytes.proofs.read.read_things.Statement.{statement}
@@ -21,6 +23,10 @@ Inv-loop s at h count n th₀ last₀ p₀ j₀ th last p j =
 
 abbrev μ-loop : tie.MeasureT-loop
 μ-loop s at h count n th₀ last₀ p₀ j₀ th last p j = count - j
+
+-- the head is accepted
+good : (c : tie.At-loop Inv-loop μ-loop) → T (acceptedHead (c .before .before .before .args .h))
+good c = c .before .before .before .pre
 
 no-things-requires : tie.Need-no-things-requires Inv-loop μ-loop
 no-things-requires c κs = search needs
@@ -54,7 +60,7 @@ returns c =
     let a = c .before .before in
     let t = a .before .before in
     let r = t .before .before in
-    let e = thing-stopped _ _ _ (r .read-thing .ensures) _ _ _ _ (t .enum-told .given .1) (a .before .number .ensures) (a .at .ensures) in
+    let e = thing-stopped _ _ _ (r .read-thing .ensures ∙ thing-opened _ _ _ _ (good (r .before .before)) _) _ _ _ _ (t .enum-told .given .1) (a .before .number .ensures) (a .at .ensures) in
     c .refused .ensures ∙ rw (c .before .no-things2 .ensures, looped-stop (r .before .before .loop .inv .1) (r .before .loop-test .taken) e)
 
 put-thing-requires : tie.Need-put-thing-requires Inv-loop μ-loop
@@ -71,7 +77,7 @@ loop-again c =
     let f = c .before .before in
     let r = f .before .before in
     let (m, v, et) = r .before .before .loop .inv in
-    let e = thing-read _ _ _ (r .read-thing .ensures) _ _ _ _ (f .found .given .1) in
+    let e = thing-read _ _ _ (r .read-thing .ensures ∙ thing-opened _ _ _ _ (good (r .before .before)) _) _ _ _ _ (f .found .given .1) in
     (omega arith, looped-on v (r .before .loop-test .taken) e, things-on (v .items) _ (v .count) _ et _ _ _ (c .put-thing .ensures))
 
 returns-2 : tie.Need-returns-2 Inv-loop μ-loop

@@ -1,12 +1,26 @@
--- `matrix_records::read::read_head` meets its contract: the front, and then the body of a record that lies in the input.
+-- `matrix_records::read::read_head` meets its contract: 27, then the front, and then the body of a record that lies in the input.
 -- Assumes nothing.
-use mathlib.Core.Path.{sym, _∙_}
+use mathlib.Core.Bool.{true}
+use mathlib.Core.Path.{_≡_, sym, _∙_}
 use borrow.Author.Needs.{needs}
+use borrow.Author.Tests.{not-true, not-false}
+use Rattle.model.specs.Accepted.{acceptedHead}
 use Rattle.records.proofs.FrontLaws.{record-found}
-use Rattle.matrix_records.specs.Answers.{asHeadAt}
-use Rattle.matrix_records.proofs.RecordLaws.{record-refused, record-read}
+use Rattle.matrix_records.specs.Answers.{asHeadAt, readHead}
+use Rattle.matrix_records.proofs.RecordLaws.{not-given, record-refused, record-read}
 use Rattle.matrix_records.proofs.read.read_head.Statement.{statement}
 use Rattle.matrix_records.proofs.read.read_head.Tie as tie
+
+head-accepted-requires : tie.Need-head-accepted-requires
+head-accepted-requires c κs = search needs
+
+returns : tie.Need-returns
+unfolding readHead
+returns c = not-given asHeadAt _ _ _ _ _ (sym (c .before .head-accepted .ensures) ∙ not-true _ (c .if1 .taken))
+
+-- the head has passed, once a record is looked for
+passing : (c : tie.After-record-at) → acceptedHead (c .before .before .before .before .args .h) ≡ true
+passing c = let i = c .before in sym (i .before .head-accepted .ensures) ∙ not-false _ (i .if1 .left)
 
 record-at-requires : tie.Need-record-at-requires
 record-at-requires c κs = search needs
@@ -23,13 +37,15 @@ number-requires c κs = search needs
 at-requires : tie.Need-at-requires
 at-requires c κs = search needs
 
-returns : tie.Need-returns
-returns c =
+returns-2 : tie.Need-returns-2
+unfolding readHead
+returns-2 c =
     let t = c .before .before in
-    record-refused asHeadAt _ _ _ _ _ (t .before .before .record-at .ensures) _ _ _ _ (t .enum-told .given .1) (c .before .number .ensures) (c .at .ensures)
+    let r = t .before .before in
+    record-refused asHeadAt _ _ _ _ _ (passing r) _ (r .record-at .ensures) _ _ _ _ (t .enum-told .given .1) (c .before .number .ensures) (c .at .ensures)
 
-add-t12 : tie.Need-add-t12
-add-t12 c = let f = record-found _ _ _ _ _ _ (sym (c .before .before .before .record-at .ensures) ∙ c .before .found .given .1) in search needs
+add-t14 : tie.Need-add-t14
+add-t14 c = let f = record-found _ _ _ _ _ _ (sym (c .before .before .before .record-at .ensures) ∙ c .before .found .given .1) in search needs
 
 body-requires : tie.Need-body-requires
 body-requires c κs = search needs
@@ -37,23 +53,27 @@ body-requires c κs = search needs
 head-of-requires : tie.Need-head-of-requires
 head-of-requires c κs = search needs
 
-returns-2 : tie.Need-returns-2
-returns-2 c =
+returns-3 : tie.Need-returns-3
+unfolding readHead
+returns-3 c =
     let b = c .before in
     let f = b .before .before in
-    c .head-of .ensures ∙ record-read asHeadAt _ _ _ _ _ (f .before .before .record-at .ensures) _ _ _ (f .found .given .1) _ (b .body .ensures)
+    let r = f .before .before in
+    c .head-of .ensures ∙ record-read asHeadAt _ _ _ _ _ (passing r) _ (r .record-at .ensures) _ _ _ (f .found .given .1) _ (b .body .ensures)
 
 pub read-head-spec : {M : Type 1} → statement M
 read-head-spec =
     tie.close
     (tie.spec
+    head-accepted-requires
+    returns
     record-at-requires
     enum-known-found
     enum-told
     number-requires
     at-requires
-    returns
-    add-t12
+    returns-2
+    add-t14
     body-requires
     head-of-requires
-    returns-2)
+    returns-3)

@@ -1,8 +1,12 @@
 -- `read::read_rest` meets its contract: a head's refusal is passed up; else the commands behind it, and the end of the input.
 -- Assumes nothing.
-use mathlib.Core.Path.{_∙_}
-use Rattle.scheme_bytes.proofs.ReadLaws.{reading-tells, head-tells, head-refused, many-commands, bad-commands, bytes-behind, no-bytes-behind}
+use mathlib.Core.Bool.{true}
+use mathlib.Core.Path.{_≡_, sym, _∙_}
+use Rattle.scheme_bytes.proofs.ReadLaws.{reading-tells, head-tells, head-refused, no-head, bad-commands, bytes-behind, no-bytes-behind}
 use borrow.Author.Needs.{needs}
+use borrow.Author.Tests.{not-true, not-false}
+use Rattle.laws.proofs.Bools.{from-true}
+use Rattle.model.specs.Accepted.{acceptedHead}
 use Rattle.scheme_bytes.proofs.read.read_rest.Statement.{statement}
 use Rattle.scheme_bytes.proofs.read.read_rest.Tie as tie
 
@@ -27,16 +31,27 @@ returns c =
     c .refused .ensures ∙
     rw (head-tells (told .enum-told .given .1) (c .before .before .number .ensures) (c .before .at .ensures)) (head-refused _ _ _ _)
 
+head-accepted-requires : tie.Need-head-accepted-requires
+head-accepted-requires c κs = search needs
+
 refused-requires-2 : tie.Need-refused-requires-2
 refused-requires-2 c κs = search needs
 
 returns-2 : tie.Need-returns-2
 returns-2 c =
-    let few = c .before in
-    c .refused2 .ensures ∙ rw (few .before .before .before .found .given .1) (many-commands _ _ _ _ (few .if1 .taken))
+    let i = c .before in
+    c .refused2 .ensures ∙
+    rw (i .before .before .before .found .given .1) (no-head _ _ _ _ (sym (i .before .head-accepted .ensures) ∙ not-true _ (i .if1 .taken)))
+
+-- what is known behind the test: the head that was found, and that it is accepted
+abbrev found-at : tie.Else1 → tie.After-found
+found-at c = c .before .before .before
+
+ok : (c : tie.Else1) → acceptedHead (found-at c .found .given .0 .0) ≡ true
+ok c = sym (c .before .head-accepted .ensures) ∙ not-false _ (c .if1 .left)
 
 read-commands-requires : tie.Need-read-commands-requires
-read-commands-requires c κs = search needs
+read-commands-requires c κs = from-true (ok c)
 
 enum-known-answer : tie.Need-enum-known-answer
 enum-known-answer c = search needs
@@ -60,7 +75,7 @@ returns-3 c =
     let few = read .before in
     let e = reading-tells (told .enum-told2 .given .1) (c .before .before .number2 .ensures) (c .before .at2 .ensures) in
     c .refused3 .ensures ∙
-    rw (few .before .before .before .found .given .1) (bad-commands _ _ _ _ (few .if1 .left) (read .read-commands .ensures) _ _ e)
+    rw (found-at few .found .given .1) (bad-commands _ _ _ _ (ok few) (read .read-commands .ensures) _ _ e)
 
 refused-requires-4 : tie.Need-refused-requires-4
 refused-requires-4 c κs = search needs
@@ -72,16 +87,16 @@ returns-4 c =
     let read = answer .before .before .before in
     let few = read .before in
     c .refused4 .ensures ∙
-    rw (few .before .before .before .found .given .1)
-    (bytes-behind _ _ _ _ (few .if1 .left) (read .read-commands .ensures) _ (answer .answer .given .1) (end .if2 .taken))
+    rw (found-at few .found .given .1)
+    (bytes-behind _ _ _ _ (ok few) (read .read-commands .ensures) _ (answer .answer .given .1) (end .if2 .taken))
 
 returns-5 : tie.Need-returns-5
 returns-5 c =
     let answer = c .before .before in
     let read = answer .before .before .before in
     let few = read .before in
-    rw (few .before .before .before .found .given .1)
-    (no-bytes-behind _ _ _ _ (few .if1 .left) (read .read-commands .ensures) _ (answer .answer .given .1) (c .if2 .left))
+    rw (found-at few .found .given .1)
+    (no-bytes-behind _ _ _ _ (ok few) (read .read-commands .ensures) _ (answer .answer .given .1) (c .if2 .left))
 
 pub read-rest-spec : {M : Type 1} → statement M
 read-rest-spec =
@@ -93,6 +108,7 @@ read-rest-spec =
     at-requires
     refused-requires
     returns
+    head-accepted-requires
     refused-requires-2
     returns-2
     read-commands-requires
