@@ -18,4 +18,5 @@ pub mod SeatsStand
 pub mod Joined
 pub mod Translation
 pub mod Refusals
+pub mod ReplyLaws
 pub mod Numbers

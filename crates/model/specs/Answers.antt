@@ -22,3 +22,8 @@ replyWidth = 1
 
 unfoldable pub replyBytes : Reply → List ℕ
 replyBytes r = r .number ∷ []
+
+-- the replies that stand in a buffer, one behind the other; fewer bytes than one takes are none
+unfoldable pub repliesIn : List ℕ → List Reply
+repliesIn [] = []
+repliesIn (k ∷ rest) = record { number = k } ∷ repliesIn rest

@@ -9,7 +9,8 @@ use lib.ListN.{length, take, drop, replicate, length-append, length-take}
 use lib.Seq.{sets}
 use borrow.Author.Tests.{le-leb}
 use Rattle.laws.proofs.Bools.{is-true}
-use Rattle.model.specs.Request.{number, run, answers, Answer}
+use Rattle.model.specs.Answers.{replyBytes, replyWidth, replyTo, repliesIn}
+use Rattle.model.specs.Request.{run, answers, Answer}
 use Rattle.model.specs.Seats.{Matrix, matrixOf, noThings, seats}
 use Rattle.model.specs.Accepted.{acceptedScheme, acceptedMatrix}
 use Rattle.model.specs.Arrays.{noScheme}
@@ -37,56 +38,61 @@ use Rattle.printout.specs.Text.{heading, badLine, requestLines, endingLi
 use Rattle.printout.specs.Inner.Ending.{listText}
 use Rattle.request_list.proofs.ListLaws.{few-requests}
 use Rattle.printout.proofs.RequestLaws.{few-lines, few-bad, few-ending, lines-more}
-use Rattle.model.specs.Answers.{replyBytes, replyWidth, replyTo}
+use Rattle.model.proofs.ReplyLaws.{replies-back}
 
--- ---- a run of an accepted matrix, with room for a result per byte
+-- ---- a run of an accepted matrix, with room for a reply per byte
 
--- a reply is its number's byte
-reply-numbers : (list : List Answer) → eachBytes (λ (a : Answer). replyBytes (replyTo a)) list ≡ map number list
-unfolding replyBytes replyTo
-reply-numbers [] = refl
-reply-numbers (a ∷ list) = ap (λ (ks : List ℕ). number a ∷ ks) (reply-numbers list)
+-- the bytes of replies read as these, and what is behind them
+replies-stored : (list : List Answer) (more : List ℕ) →
+    repliesIn (eachBytes (λ (a : Answer). replyBytes (replyTo a)) list ++ more) ≡ map replyTo list ++ repliesIn more
+replies-stored [] more = refl
+replies-stored (a ∷ list) more =
+    rw (append-assoc, replies-back (replyTo a) (eachBytes (λ (a : Answer). replyBytes (replyTo a)) list ++ more), replies-stored list more)
 
 module _ (s : Scheme) (m : Matrix) (ok : T (acceptedScheme s)) (of : T (acceptedMatrix (s .head) m)) (bytes buffer : List ℕ)
-    (room : length bytes ≤ length buffer) (ran : Ran) (cells numbers : List ℕ)
-    (e : record { ran = ran; cells = cells; replies = numbers } ≡ runOn s m bytes buffer) where
+    (room : replyWidth * length bytes ≤ length buffer) (ran : Ran) (cells replies : List ℕ)
+    (e : record { ran = ran; cells = cells; replies = replies } ≡ runOn s m bytes buffer) where
   abbrev after : Matrix
   after = run seats s m (readList bytes .requests)
 
-  abbrev results : List ℕ
-  results = map number (answers seats s m (readList bytes .requests))
+  abbrev list : List Answer
+  list = answers seats s m (readList bytes .requests)
+
+  abbrev stored : List ℕ
+  stored = eachBytes (λ (a : Answer). replyBytes (replyTo a)) list
 
   abbrev given : Result
-  given = record { ran = ran; cells = cells; replies = numbers }
+  given = record { ran = ran; cells = cells; replies = replies }
 
   carried-out : given ≡ record {
     ran = record { answer = runAnswer (length (readList bytes .requests)) (readList bytes .ending); things = after .things };
     cells = after .cells;
-    replies = placed buffer 0 results;
+    replies = placed buffer 0 stored;
   }
   unfolding runOn
   carried-out =
       let fits = le-leb (replyWidth * length (readList bytes .requests)) (length buffer) (omega (arith, few-requests bytes, room)) in
-      e ∙ rw (is-true (acceptedScheme s) ok, is-true (acceptedMatrix (s .head) m) of, fits, reply-numbers (answers seats s m (readList bytes .requests)))
+      e ∙ rw (is-true (acceptedScheme s) ok, is-true (acceptedMatrix (s .head) m) of, fits)
 
   now-is : matrixOf (ran .things) cells ≡ after
   now-is = ap (λ (r : Result). matrixOf (r .ran .things) (r .cells)) carried-out
 
-  lines-are : listText 0 (readList bytes) numbers ≡ listText 0 (readList bytes) results
+  lines-are : listText 0 (readList bytes) (repliesIn replies) ≡ listText 0 (readList bytes) (map replyTo list)
   unfolding placed
   lines-are =
-      let n : numbers ≡ results ++ drop (0 + length results) buffer = ap (λ (r : Result). r .replies) carried-out in
-      rw (n, lines-more 0 s m (readList bytes .requests) (drop (0 + length results) buffer))
+      let behind = drop (0 + length stored) buffer in
+      let n : replies ≡ stored ++ behind = ap (λ (r : Result). r .replies) carried-out in
+      rw (n, replies-stored list behind, lines-more 0 s m (readList bytes .requests) (repliesIn behind))
 
   pub printed : (out : List ℕ) → length out ≤ largest → {p : ℕ} {first : List ℕ} → _≡_ {A = ℕ × List ℕ} (p, first) (putText out 0 heading)
-      → {q : ℕ} {second : List ℕ} → _≡_ {A = ℕ × List ℕ} (q, second) (putText first p (listText 0 (readList bytes) numbers))
+      → {q : ℕ} {second : List ℕ} → _≡_ {A = ℕ × List ℕ} (q, second) (putText first p (listText 0 (readList bytes) (repliesIn replies)))
       → (t : Totals) → t ≡ totalsOf s (matrixOf (ran .things) cells)
       → {r : ℕ} {third : List ℕ} → _≡_ {A = ℕ × List ℕ} (r, third) (putText second q (endLine t)) → (r, third) ≡ putText out 0 (runText s m (readList bytes))
   unfolding runText
   printed out far a b t f c =
       let l = readList bytes in
-      let parts = append-assoc heading (requestLines 0 (l .requests) results) (endingLine (l .ending)) in
-      let text : (heading ++ listText 0 l numbers) ++ endLine t ≡ runText s m l =
+      let parts = append-assoc heading (requestLines 0 (l .requests) (map replyTo list)) (endingLine (l .ending)) in
+      let text : (heading ++ listText 0 l (repliesIn replies)) ++ endLine t ≡ runText s m l =
       rw (lines-are, f, now-is) (ap (λ (x : List ℕ). x ++ endLine (totalsOf s after)) (sym parts)) in
       c ∙ put-then out 0 _ (b ∙ put-then out 0 heading a far _) far _ ∙ ap (putText out 0) text
 
@@ -100,7 +106,7 @@ few-run : (s : Scheme) (m : Matrix) (requests : List ℕ) → length requests �
 unfolding runText heading
 few-run s m requests h =
     let l = readList requests in
-    let lines = few-lines 0 (l .requests) (map number (answers seats s m (l .requests))) in
+    let lines = few-lines 0 (l .requests) (map replyTo (answers seats s m (l .requests))) in
     let ends = few-end (totalsOf s (run seats s m (l .requests))) in
     simp length-append (omega (arith, few-requests requests, few-ending (l .ending)))
 
@@ -129,17 +135,17 @@ unfolding answersText heading input
 few-answers requests stored =
     let front = take 65536 requests in
     let l = readList front in
-    simp length-append (omega (arith, few-lines 0 (l .requests) stored, few-requests front, few-ending (l .ending), length-take 65536 requests))
+    simp length-append (omega (arith, few-lines 0 (l .requests) (repliesIn stored), few-requests front, few-ending (l .ending), length-take 65536 requests))
 
 pub answers-printed : (requests stored front : List ℕ) → front ≡ input requests → (out : List ℕ) → length out ≤ largest
     → {p : ℕ} {first : List ℕ} → _≡_ {A = ℕ × List ℕ} (p, first) (putText out 0 heading)
-    → {q : ℕ} {second : List ℕ} → _≡_ {A = ℕ × List ℕ} (q, second) (putText first p (listText 0 (readList front) stored))
+    → {q : ℕ} {second : List ℕ} → _≡_ {A = ℕ × List ℕ} (q, second) (putText first p (listText 0 (readList front) (repliesIn stored)))
     → _≡_ {A = ℕ × List ℕ} (q, second) (length (answersText requests stored), sets out 0 (answersText requests stored))
 unfolding answersText
 answers-printed requests stored front is out far a b =
     let l = readList (input requests) in
-    let text : heading ++ listText 0 (readList front) stored ≡ answersText requests stored =
-    rw is (sym (append-assoc heading (requestLines 0 (l .requests) stored) (endingLine (l .ending)))) in
+    let text : heading ++ listText 0 (readList front) (repliesIn stored) ≡ answersText requests stored =
+    rw is (sym (append-assoc heading (requestLines 0 (l .requests) (repliesIn stored)) (endingLine (l .ending)))) in
     b ∙ put-then out 0 heading a far _ ∙ ap (putText out 0) text ∙ from-start out _ (few-answers requests stored)
 
 -- ---- a matrix and a scheme that were read, or weren't

@@ -1,15 +1,18 @@
 -- A list of requests, printed one by one: what is left of it at each request; and how long it is at most. The buffer and the positions are variables,
 -- so that a function's proof names few places of its context. Assumes nothing.
-use Prim.Native.Nat.{ℕ, zero, suc, _+_, _*_, _≤_, _<_}
+use Prim.Native.Nat.{ℕ, suc, _+_, _*_, _≤_, _<_}
 use native.Mathlib.Omega.{arith}
 use native.Mathlib.Numerals.{add-one}
 use mathlib.Core.Path.{_≡_, refl, sym, ap, _∙_}
 use mathlib.Core.List.{List, [], _∷_, _++_, map, append-assoc}
-use lib.ListN.{length, drop, getD, length-append}
-use Rattle.laws.proofs.Walks.{turn, ended}
-use Rattle.model.specs.Request.{Request, number, answers}
+use lib.ListN.{length, drop, length-append, length-drop}
+use lib.Seq.{drop-drop}
+use Rattle.model.specs.Answers.{replyTo, replyWidth, repliesIn}
+use Rattle.model.specs.Request.{Request, answers}
 use Rattle.model.specs.Seats.{Matrix, seats}
+use Rattle.model.specs.declared.Reply.{Reply}
 use Rattle.model.specs.declared.Scheme.{Scheme}
+use Rattle.model.proofs.ReplyLaws.{replyAt, reply-dropped, replies-first, replies-few, replies-behind}
 use Rattle.records.specs.declared.Reading.{Reading}
 use Rattle.records.specs.declared.Reading.the-variants as reading
 use Rattle.lines.specs.Lines.{line}
@@ -21,18 +24,18 @@ use Rattle.request_bytes.specs.declared.answers.RequestAnswer.{RequestAnswer}
 use Rattle.request_bytes.specs.declared.answers.RequestReading.{RequestReading}
 use Rattle.request_bytes.specs.declared.answers.RequestReading.the-variants.{Done, End, Refused}
 use Rattle.request_list.specs.List.{asked, readList, Listed}
-use Rattle.printout.specs.Text.{badLine, requestLines, endingLine}
-use Rattle.printout.specs.Inner.Ending.{answerLine, listText, endedText}
+use Rattle.printout.specs.Text.{badLine, requestLine, requestLines, endingLine}
+use Rattle.printout.specs.Inner.Ending.{repliesFrom, answerLine, listText, endedText}
 use Rattle.request_list.proofs.ListLaws.{endOf, Counting, counting-start, counting-none, Stops, counting-stop, counting-on}
 
 -- ---- how many, and how long
 
-pub few-lines : (k : ℕ) (qs : List Request) (rs : List ℕ) → length (requestLines k qs rs) ≤ 63 * length qs
+pub few-lines : (k : ℕ) (qs : List Request) (rs : List Reply) → length (requestLines k qs rs) ≤ 63 * length qs
 unfolding requestLines
 few-lines k [] rs = omega arith
 few-lines k (q ∷ qs) [] = omega arith
 few-lines k (q ∷ qs) (r ∷ rs) =
-    let l = k ∷ q .command ∷ r ∷ [] in
+    let l = k ∷ q .command ∷ r .number ∷ [] in
     omega (arith, length-append (line l) (requestLines (suc k) qs rs), few-in-line l, few-lines (suc k) qs rs)
 
 pub few-bad : (at k : ℕ) → length (badLine at k) ≤ 46
@@ -43,32 +46,39 @@ pub few-ending : (e : Reading) → length (endingLine e) ≤ 46
 few-ending (reading.Done next) = omega arith
 few-ending (reading.Refused k at) = few-bad at k
 
--- results behind those of the requests are not printed
-pub lines-more : (k : ℕ) (s : Scheme) (m : Matrix) (qs : List Request) (more : List ℕ)
-    → requestLines k qs (map number (answers seats s m qs) ++ more) ≡ requestLines k qs (map number (answers seats s m qs))
+-- replies behind those to the requests are not printed
+pub lines-more : (k : ℕ) (s : Scheme) (m : Matrix) (qs : List Request) (more : List Reply)
+    → requestLines k qs (map replyTo (answers seats s m qs) ++ more) ≡ requestLines k qs (map replyTo (answers seats s m qs))
 unfolding requestLines answers
 lines-more k s m [] more = refl
 lines-more k s m (q ∷ qs) more = rw (lines-more (suc k) s _ qs more)
 
--- ---- the line of a request, where there is a result for it, and the first of those that are left
+-- ---- the line of a request, where there is a reply to it, and the first of those that are left
 
-pub has-line : (k command : ℕ) (rs : List ℕ) → k < length rs → line (k ∷ command ∷ getD rs k 0 ∷ []) ≡ answerLine k command (drop k rs)
-has-line k command rs h = ap (answerLine k command) (sym (turn rs (length rs) refl k 0 h))
+module _ (k command : ℕ) (l : List ℕ) where
+  pub has-line : (k + 1) * replyWidth ≤ length l → (r : Reply) → r ≡ replyAt (k * replyWidth) l →
+      requestLine k command r ≡ answerLine k command (repliesFrom k l)
+  has-line h r e =
+      let d = length-drop (k * replyWidth) l in
+      let first = replies-first (drop (k * replyWidth) l) (omega (arith, d)) in
+      ap (requestLine k command) (e ∙ sym (reply-dropped (k * replyWidth) l)) ∙ sym (ap (answerLine k command) first)
 
-pub no-line : (k command : ℕ) (rs : List ℕ) → length rs ≤ k → [] ≡ answerLine k command (drop k rs)
-no-line k command rs h = ap (answerLine k command) (sym (ended rs (length rs) refl k h))
+  pub no-line : length l < (k + 1) * replyWidth → [] ≡ answerLine k command (repliesFrom k l)
+  no-line h =
+      let d = length-drop (k * replyWidth) l in
+      rw (replies-few (drop (k * replyWidth) l) (omega (arith, d)))
 
-first-line : (k : ℕ) (q : Request) (qs : List Request) (rs : List ℕ)
+first-line : (k : ℕ) (q : Request) (qs : List Request) (rs : List Reply)
     → requestLines k (q ∷ qs) rs ≡ answerLine k (q .command) rs ++ requestLines (suc k) qs (drop 1 rs)
 unfolding requestLines
 first-line k q [] [] = refl
 first-line k q (p ∷ qs) [] = refl
 first-line k q qs (r ∷ rs) = refl
 
-drop-next : (n : ℕ) (l : List ℕ) → drop (suc n) l ≡ drop 1 (drop n l)
-drop-next zero l = refl
-drop-next (suc n) [] = refl
-drop-next (suc n) (x ∷ l) = drop-next n l
+replies-next : (n : ℕ) (l : List ℕ) → repliesFrom (suc n) l ≡ drop 1 (repliesFrom n l)
+replies-next n l =
+    let w : suc n * replyWidth ≡ n * replyWidth + replyWidth = omega arith in
+    rw (w, ← (drop-drop replyWidth (n * replyWidth) l)) (replies-behind (drop (n * replyWidth) l))
 
 -- ---- what ends a list, said of the reading and of the list
 
@@ -79,33 +89,33 @@ of-end p (Refused k at) = refl
 
 -- ---- what is left
 
-pub record Printing (bytes results out : List ℕ) (at : ℕ) (now : List ℕ) (n p to : ℕ) : Type 0 where
+pub record Printing (bytes replies out : List ℕ) (at : ℕ) (now : List ℕ) (n p to : ℕ) : Type 0 where
   pub rest : Listed
   pub counting : Counting bytes n p rest
-  pub left : Left out at (listText 0 (readList bytes) results) now to (listText n rest (drop n results))
+  pub left : Left out at (listText 0 (readList bytes) (repliesIn replies)) now to (listText n rest (repliesFrom n replies))
 
-pub printing-start : (bytes results out : List ℕ) (at : ℕ) → at ≤ largest → Printing bytes results out at out 0 0 at
-printing-start bytes results out at h = record { rest = readList bytes; counting = counting-start bytes; left = left-all out at _ h }
+pub printing-start : (bytes replies out : List ℕ) (at : ℕ) → at ≤ largest → Printing bytes replies out at out 0 0 at
+printing-start bytes replies out at h = record { rest = readList bytes; counting = counting-start bytes; left = left-all out at _ h }
 
-module _ {bytes results out : List ℕ} {at : ℕ} {now : List ℕ} {n p to : ℕ} (i : Printing bytes results out at now n p to) where
+module _ {bytes replies out : List ℕ} {at : ℕ} {now : List ℕ} {n p to : ℕ} (i : Printing bytes replies out at now n p to) where
   abbrev leaves : Listed → List ℕ
-  leaves l = listText n l (drop n results)
+  leaves l = listText n l (repliesFrom n replies)
 
-  pub printing-none : length bytes ≤ p → (to, now) ≡ putText out at (listText 0 (readList bytes) results)
+  pub printing-none : length bytes ≤ p → (to, now) ≡ putText out at (listText 0 (readList bytes) (repliesIn replies))
   unfolding requestLines
   printing-none h = left-none (i .left) (ap leaves (counting-none (i .counting) h))
 
   module _ (more : p < length bytes) (a : RequestAnswer) (is : a ≡ readRequest bytes p) where
     pub printing-stop : Stops (a .answer) → {q : ℕ} {new : List ℕ} → _≡_ {A = ℕ × List ℕ} (q, new) (putText now to (endedText (a .answer)))
-        → (q, new) ≡ putText out at (listText 0 (readList bytes) results)
+        → (q, new) ≡ putText out at (listText 0 (readList bytes) (repliesIn replies))
     unfolding requestLines
     printing-stop h b =
         left-last (i .left) (endedText (a .answer)) b (ap leaves (counting-stop (i .counting) more a is (a .answer) refl h) ∙ of-end p (a .answer))
 
     pub printing-on : (next : ℕ) → a .answer ≡ Done next → length out ≤ largest → {q : ℕ} {new : List ℕ}
-        → _≡_ {A = ℕ × List ℕ} (q, new) (putText now to (answerLine n (a .request .command) (drop n results)))
-        → Printing bytes results out at new (n + 1) next q
+        → _≡_ {A = ℕ × List ℕ} (q, new) (putText now to (answerLine n (a .request .command) (repliesFrom n replies)))
+        → Printing bytes replies out at new (n + 1) next q
     printing-on next on h b =
         let (rest, counting, o) = counting-on (i .counting) more a is next on in
-        let f = first-line n (asked (a .request)) (rest .requests) (drop n results) in
-        record { rest = rest; counting = counting; left = left-on (i .left) h _ _ b (ap leaves o ∙ rw (add-one, drop-next n results, f, append-assoc)) }
+        let f = first-line n (asked (a .request)) (rest .requests) (repliesFrom n replies) in
+        record { rest = rest; counting = counting; left = left-on (i .left) h _ _ b (ap leaves o ∙ rw (add-one, replies-next n replies, f, append-assoc)) }

@@ -4,8 +4,10 @@ use Prim.Native.Nat.{ℕ, suc}
 use mathlib.Core.List.{List, [], _∷_, _++_, map}
 use lib.ListN.{take, replicate}
 use Rattle.lines.specs.Lines.{line}
-use Rattle.model.specs.Request.{Request, number, run, answers}
+use Rattle.model.specs.Answers.{replyTo, repliesIn}
+use Rattle.model.specs.Request.{Request, run, answers}
 use Rattle.model.specs.Seats.{Matrix, matrixOf, noThings, seats}
+use Rattle.model.specs.declared.Reply.{Reply}
 use Rattle.model.specs.declared.Scheme.{Scheme}
 use Rattle.records.specs.declared.Reading.{Reading}
 use Rattle.records.specs.declared.Reading.the-variants.{Done, Refused}
@@ -36,11 +38,15 @@ endLine (totals.Refused k) = badLine 0 k
 
 -- ---- requests
 
--- each request's place in the list, its command, its result; k is the first one's place
-unfoldable pub requestLines : ℕ → List Request → List ℕ → List ℕ
-requestLines k [] results = []
+-- a request's place in the list, its command, its result
+abbrev pub requestLine : ℕ → ℕ → Reply → List ℕ
+requestLine k command r = line (k ∷ command ∷ r .number ∷ [])
+
+-- of each request that has a reply; k is the first one's place
+unfoldable pub requestLines : ℕ → List Request → List Reply → List ℕ
+requestLines k [] rs = []
 requestLines k (q ∷ qs) [] = []
-requestLines k (q ∷ qs) (r ∷ rs) = line (k ∷ q .command ∷ r ∷ []) ++ requestLines (suc k) qs rs
+requestLines k (q ∷ qs) (r ∷ rs) = requestLine k (q .command) r ++ requestLines (suc k) qs rs
 
 -- a record that can't be read ends the list
 abbrev pub endingLine : Reading → List ℕ
@@ -49,18 +55,18 @@ endingLine (Refused k at) = badLine at k
 
 unfoldable pub runText : Scheme → Matrix → Listed → List ℕ
 runText s m l =
-    heading ++ requestLines 0 (l .requests) (map number (answers seats s m (l .requests))) ++ endingLine (l .ending)
+    heading ++ requestLines 0 (l .requests) (map replyTo (answers seats s m (l .requests))) ++ endingLine (l .ending)
     ++ endLine (totalsOf s (run seats s m (l .requests)))
 
 -- ---- the files: of a longer one only the first 65,536 bytes are the input
 unfoldable pub input : List ℕ → List ℕ
 input bytes = take 65536 bytes
 
--- what `run` prints of a list whose results are stored: the heading, a line for each request that has one, and a record that can't be read
+-- what `run` prints of a list whose replies are stored: the heading, a line for each request that has one, and a record that can't be read
 unfoldable pub answersText : List ℕ → List ℕ → List ℕ
-answersText requests results =
+answersText requests replies =
     let l = readList (input requests) in
-    heading ++ requestLines 0 (l .requests) results ++ endingLine (l .ending)
+    heading ++ requestLines 0 (l .requests) (repliesIn replies) ++ endingLine (l .ending)
 
 abbrev pub onMatrix : Scheme → List ℕ → MatrixAnswer × List ℕ → Reading → List ℕ
 onMatrix s requests m (Done next) = runText s (matrixOf (m .0 .things) (m .1)) (readList requests)

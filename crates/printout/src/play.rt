@@ -3,6 +3,7 @@ use crate::text::put_bad;
 use crate::text::put_end;
 use crate::text::put_heading;
 use crate::text::put_request;
+use model::Reply;
 use model::Scheme;
 use model::Things;
 use records::Reading;
@@ -11,14 +12,15 @@ ghost use mathlib.Core.Path.{_≡_};
 ghost use mathlib.Core.List.{List};
 ghost use Prim.Native.Nat.{ℕ, _≤_};
 ghost use lib.Dec.{T};
-ghost use lib.ListN.{length, drop};
+ghost use lib.ListN.{length};
 ghost use lib.Seq.{sets};
+ghost use Rattle.model.specs.Answers.{repliesIn};
 ghost use Rattle.model.specs.Seats.{matrixOf};
 ghost use Rattle.model.specs.Accepted.{acceptedScheme, acceptedMatrix};
 ghost use Rattle.lines.specs.Put.{putText};
 ghost use Rattle.request_list.specs.List.{readList};
 ghost use Rattle.printout.specs.Text.{runText, answersText, input, matrixText, playText};
-ghost use Rattle.printout.specs.Inner.Ending.{answerLine, listText, endedText};
+ghost use Rattle.printout.specs.Inner.Ending.{repliesFrom, answerLine, listText, endedText};
 
 // Of a longer file only the first 65,536 bytes are the input.
 fn input(bytes: &[u8]) -> &[u8]
@@ -38,19 +40,21 @@ fn put_ending(out: &mut [u8], to: usize, answer: RequestReading) -> usize
     }
 }
 
-// The line of request n, where there is a result for it.
-fn put_answer(out: &mut [u8], at: usize, n: usize, command: u8, results: &[u8]) -> usize
-    ensures { λ r. ⌜ _≡_ {A = ℕ × List ℕ} (r, now (out .exit)) (putText (now (out .entry)) at (answerLine n command (drop n (now (results .entry))))) ⌝ }
+// The line of request n, where there is a reply to it.
+fn put_answer(out: &mut [u8], at: usize, n: usize, command: u8, replies: &[u8]) -> usize
+    ensures { λ r. ⌜ _≡_ {A = ℕ × List ℕ} (r, now (out .exit)) (putText (now (out .entry)) at (answerLine n command (repliesFrom n (now (replies .entry))))) ⌝ }
 {
-    if n < results.len() {
-        return put_request(out, at, n, command, results[n]);
+    if n < replies.len() / Reply::WIDTH {
+        let i = n * Reply::WIDTH;
+        let number = replies[i];
+        return put_request(out, at, n, command, Reply { number });
     }
     at
 }
 
-// A line for each request of a list, with its result, and one for a record that can't be read.
-fn put_requests(out: &mut [u8], at: usize, bytes: &[u8], results: &[u8]) -> usize
-    ensures { λ r. ⌜ _≡_ {A = ℕ × List ℕ} (r, now (out .exit)) (putText (now (out .entry)) at (listText 0 (readList (now (bytes .entry))) (now (results .entry)))) ⌝ }
+// A line for each request of a list, with its reply, and one for a record that can't be read.
+fn put_requests(out: &mut [u8], at: usize, bytes: &[u8], replies: &[u8]) -> usize
+    ensures { λ r. ⌜ _≡_ {A = ℕ × List ℕ} (r, now (out .exit)) (putText (now (out .entry)) at (listText 0 (readList (now (bytes .entry))) (repliesIn (now (replies .entry))))) ⌝ }
 {
     let mut n: usize = 0;
     let mut p: usize = 0;
@@ -62,23 +66,23 @@ fn put_requests(out: &mut [u8], at: usize, bytes: &[u8], results: &[u8]) -> usiz
         let RequestReading::Done { next } = answer else {
             return put_ending(out, to, answer);
         };
-        to = put_answer(out, to, n, q.command, results);
+        to = put_answer(out, to, n, q.command, replies);
         n += 1;
         p = next;
     }
     to
 }
 
-// The heading, the requests with their results, and what the matrix then has. A list has no more requests than bytes, so all results have room.
+// The heading, the requests with their replies, and what the matrix then has. A list has no more requests than bytes, so all replies have room.
 fn put_run(s: Scheme, th: Things, cells: &mut [u64], requests: &[u8], out: &mut [u8]) -> usize
     requires { ⌜ T (acceptedScheme s) × T (acceptedMatrix (s .head) (matrixOf th (now cells))) × (length (now requests) ≤ 65536) ⌝ }
     ensures { λ r. ⌜ _≡_ {A = ℕ × List ℕ} (r, now (out .exit)) (putText (now (out .entry)) 0 (runText s (matrixOf th (now (cells .entry))) (readList (now (requests .entry))))) ⌝ }
 {
-    let mut results = [0u8; 65536];
-    let ran = engine::run_list(s, th, cells, requests, &mut results);
+    let mut replies = [0u8; 65536 * Reply::WIDTH];
+    let ran = engine::run_list(s, th, cells, requests, &mut replies);
     let things = ran.things;
     let heading = put_heading(out);
-    let lines = put_requests(out, heading, requests, &results);
+    let lines = put_requests(out, heading, requests, &replies);
     put_end(out, lines, totals::totals(s, things, cells))
 }
 
@@ -109,10 +113,10 @@ pub fn printout(scheme: &[u8], matrix: &[u8], requests: &[u8], out: &mut [u8]) -
     put_matrix(s, input(matrix), input(requests), out)
 }
 
-// The same lines for answers that were stored before: the heading and the requests, as far as there are results for them.
-pub fn answers_text(requests: &[u8], results: &[u8], out: &mut [u8]) -> usize
-    ensures { λ r. ⌜ _≡_ {A = ℕ × List ℕ} (r, now (out .exit)) (length (answersText (now (requests .entry)) (now (results .entry))), sets (now (out .entry)) 0 (answersText (now (requests .entry)) (now (results .entry)))) ⌝ }
+// The same lines for replies that were stored before: the heading and the requests, as far as there are replies to them.
+pub fn answers_text(requests: &[u8], replies: &[u8], out: &mut [u8]) -> usize
+    ensures { λ r. ⌜ _≡_ {A = ℕ × List ℕ} (r, now (out .exit)) (length (answersText (now (requests .entry)) (now (replies .entry))), sets (now (out .entry)) 0 (answersText (now (requests .entry)) (now (replies .entry)))) ⌝ }
 {
     let heading = put_heading(out);
-    put_requests(out, heading, input(requests), results)
+    put_requests(out, heading, input(requests), replies)
 }

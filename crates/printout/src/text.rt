@@ -1,11 +1,11 @@
 // The words of the printout around its numbers.
+use model::Reply;
 use totals::Totals;
 ghost use Prim.Native.Nat.{ℕ};
 ghost use mathlib.Core.Path.{_≡_};
-ghost use mathlib.Core.List.{List, [], _∷_};
-ghost use Rattle.lines.specs.Lines.{line};
+ghost use mathlib.Core.List.{List};
 ghost use Rattle.lines.specs.Put.{putText};
-ghost use Rattle.printout.specs.Text.{heading, badLine, endLine};
+ghost use Rattle.printout.specs.Text.{heading, badLine, requestLine, endLine};
 
 pub(crate) fn put_heading(out: &mut [u8]) -> usize
     ensures { λ r. ⌜ _≡_ {A = ℕ × List ℕ} (r, now (out .exit)) (putText (now (out .entry)) 0 heading) ⌝ }
@@ -21,10 +21,20 @@ pub(crate) fn put_bad(out: &mut [u8], at: usize, position: usize, number: u8) ->
 }
 
 // A request's place in its list, its command, its result.
-pub(crate) fn put_request(out: &mut [u8], at: usize, place: usize, command: u8, result: u8) -> usize
-    ensures { λ r. ⌜ _≡_ {A = ℕ × List ℕ} (r, now (out .exit)) (putText (now (out .entry)) at (line (place ∷ command ∷ result ∷ []))) ⌝ }
+pub(crate) fn put_request(
+    out: &mut [u8],
+    at: usize,
+    place: usize,
+    command: u8,
+    reply: Reply,
+) -> usize
+    ensures { λ r. ⌜ _≡_ {A = ℕ × List ℕ} (r, now (out .exit)) (putText (now (out .entry)) at (requestLine place command reply)) ⌝ }
 {
-    lines::put_line(out, at, &[place as u64, command as u64, result as u64])
+    lines::put_line(
+        out,
+        at,
+        &[place as u64, command as u64, reply.number as u64],
+    )
 }
 
 fn put_counted(out: &mut [u8], at: usize, things: u32, cells: u32, entries: u32) -> usize

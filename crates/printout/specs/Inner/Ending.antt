@@ -1,19 +1,25 @@
 -- The lines of a list of requests, and what the reading that gave no further request adds. Assumes nothing.
-use Prim.Native.Nat.{ℕ}
+use Prim.Native.Nat.{ℕ, _*_}
 use mathlib.Core.List.{List, [], _∷_, _++_}
-use Rattle.lines.specs.Lines.{line}
+use lib.ListN.{drop}
+use Rattle.model.specs.Answers.{replyWidth, repliesIn}
+use Rattle.model.specs.declared.Reply.{Reply}
 use Rattle.request_bytes.specs.declared.answers.RequestReading.{RequestReading}
 use Rattle.request_bytes.specs.declared.answers.RequestReading.the-variants.{Done, End, Refused}
-use Rattle.printout.specs.Text.{badLine, requestLines, endingLine}
+use Rattle.printout.specs.Text.{badLine, requestLine, requestLines, endingLine}
 use Rattle.request_list.specs.List.{Listed}
 
--- the line of request k, by the results from its own on
-abbrev pub answerLine : ℕ → ℕ → List ℕ → List ℕ
-answerLine k command [] = []
-answerLine k command (r ∷ rs) = line (k ∷ command ∷ r ∷ [])
+-- the replies in a buffer from the n-th on
+abbrev pub repliesFrom : ℕ → List ℕ → List Reply
+repliesFrom n replies = repliesIn (drop (n * replyWidth) replies)
 
-abbrev pub listText : ℕ → Listed → List ℕ → List ℕ
-listText k l results = requestLines k (l .requests) results ++ endingLine (l .ending)
+-- the line of request k, by the replies from its own on
+abbrev pub answerLine : ℕ → ℕ → List Reply → List ℕ
+answerLine k command [] = []
+answerLine k command (r ∷ rs) = requestLine k command r
+
+abbrev pub listText : ℕ → Listed → List Reply → List ℕ
+listText k l rs = requestLines k (l .requests) rs ++ endingLine (l .ending)
 
 abbrev pub endedText : RequestReading → List ℕ
 endedText (Done next) = []
