@@ -1,7 +1,6 @@
 -- The proofs of what `Agreement`, `LibraryAgrees`, `Numbers`, `Starred` and `WrongPrograms` state, and the laws that they cite: `Obeyed` (what stored
--- replies tell), `ReadNumbers` and `FaultNumbers` (which numbers a reading, a
--- conversion can be refused by), `LibraryCalls` and `LibraryRuns` (a call on bytes is a call on what they
--- are), `Computes` (what the computed ones look through).
+-- replies tell), `ReadNumbers`, `FaultNumbers` and `FunctionNumbers` (which numbers a reading, a conversion, a function on values can give),
+-- `LibraryCalls` and `LibraryRuns` (a call on bytes is a call on what they are), `Computes` (what the computed ones look through).
 pub mod Computes
 pub mod Obeyed
 pub mod Agreement
@@ -10,6 +9,7 @@ pub mod FaultNumbers
 pub mod LibraryCalls
 pub mod LibraryRuns
 pub mod LibraryAgrees
+pub mod FunctionNumbers
 pub mod Numbers
 pub mod Starred
 pub mod WrongPrograms

@@ -1,4 +1,5 @@
--- Which numbers each function can give: no others than those listed with it, and each of these is in the outline's table of refusal numbers.
+-- Which numbers each function can give that reads or writes a record or more, carries out requests, counts or converts: no others than those listed
+-- with it, and each of these is in the outline's table of refusal numbers.
 -- Assumes nothing.
 use Prim.Native.Nat.{ℕ}
 use mathlib.Core.Bool.{Bool}
