@@ -1,23 +1,17 @@
 /* Calls the library on each case from standard input and tells every result on standard output, for tests/compare to hold
  * against the independent program.
  *
- * A case: scheme's length, matrix's, list's, room, 1 if buffers of just the right length are to be tried, number of direct
- * requests (4 bytes each); the bytes of the first three; then each direct request: command (1), ids (1), 2 bytes an id. A
- * result: what was called, the number, all seven numbers of the report, and for each lent buffer two numbers; 8 bytes a
- * number. All little-endian.
+ * A case: see cases.h. A result: what was called, the number, all seven numbers of the report, and for each lent buffer two
+ * numbers; 8 bytes a number, little-endian.
  *
  * Buffers are filled with a pattern before each call. The two numbers of a buffer are the end of what no longer is the
  * pattern, and a hash of all up to there: so they say every byte of it, with the guards on both sides. */
+#include "cases.h"
 #include "slushferret.h"
 
-long read(int file, void *bytes, size_t length);
-long write(int file, const void *bytes, size_t length);
 int memcmp(const void *one, const void *other, size_t length);
-void *memcpy(void *to, const void *from, size_t length);
-_Noreturn void _exit(int status);
 
 enum {
-    PART = 262144,  /* no part of a case is longer */
     GUARD = 64,
     ROOM = 80000,   /* no case has more room */
     LARGE = 40000,  /* enough for every matrix, and for the answers to every list of a case */
@@ -27,11 +21,6 @@ enum {
 
 enum { CHECK_SCHEME = 1, CHECK_MATRIX, CONVERT_SCHEME, CONVERT_MATRIX, RUN, WRITE_REQUEST, INPUTS };
 
-struct part {
-    size_t length;
-    uint8_t bytes[PART];
-};
-
 struct buffer {
     uint8_t bytes[GUARD + ROOM + GUARD];
 };
@@ -39,12 +28,6 @@ struct buffer {
 static struct part scheme, matrix, requests, now; /* now: the matrix so far, one by one */
 static struct buffer answers, out, pattern;
 static size_t report[REPORT];
-
-static _Noreturn void stop(const char *why, size_t length) {
-    write(2, why, length);
-    _exit(2);
-}
-#define STOP(why) stop(why "\n", sizeof(why))
 
 /* ---- telling */
 
@@ -164,44 +147,6 @@ static uint8_t write_request(uint8_t command, const uint16_t *ids, size_t count,
     return number;
 }
 
-/* ---- reading cases */
-
-static uint8_t heard[65536];
-static size_t heard_length, heard_at;
-
-/* 0 at the end of the input */
-static int listen(void) {
-    long got = read(0, heard, sizeof heard);
-    if (got < 0) {
-        STOP("the driver can't read its cases");
-    }
-    heard_length = (size_t)got;
-    heard_at = 0;
-    return got > 0;
-}
-
-static void take(void *to, size_t length) {
-    uint8_t *bytes = to;
-    while (length > 0) {
-        if (heard_at == heard_length && !listen()) {
-            STOP("the driver's input ends inside a case");
-        }
-        size_t some = heard_length - heard_at < length ? heard_length - heard_at : length;
-        memcpy(bytes, heard + heard_at, some);
-        heard_at += some;
-        bytes += some;
-        length -= some;
-    }
-}
-
-static void take_part(struct part *part, uint32_t length) {
-    if (length > PART) {
-        STOP("a part of a case is longer than the driver takes");
-    }
-    part->length = length;
-    take(part->bytes, length);
-}
-
 /* ---- a case */
 
 /* with the case's room, with a large buffer, and where that worked with just enough and with one byte less */
@@ -255,19 +200,17 @@ static void run_steps(void) {
 /* A request handed in directly: written at the start, at the end and past the end of the room, at a position that no
  * buffer has, and with room behind the one before; then carried out. Gives the position behind it. */
 static size_t direct(size_t room, size_t behind, int carried_out) {
-    uint8_t front[2];
-    uint16_t ids[256];
+    struct direct q;
     uint8_t record[2 * 256 + 6];
-    take(front, 2);
-    take(ids, 2 * (size_t)front[1]);
-    size_t length = 6 + 2 * (size_t)front[1];
-    write_request(front[0], ids, front[1], room, 0, 0);
+    take_direct(&q);
+    size_t length = 6 + 2 * (size_t)q.count;
+    write_request(q.command, q.ids, q.count, room, 0, 0);
     if (length <= room) {
-        write_request(front[0], ids, front[1], room, room - length, 0);
-        write_request(front[0], ids, front[1], room, room - length + 1, 0);
+        write_request(q.command, q.ids, q.count, room, room - length, 0);
+        write_request(q.command, q.ids, q.count, room, room - length + 1, 0);
     }
-    write_request(front[0], ids, front[1], room, (size_t)-1, 0);
-    if (write_request(front[0], ids, front[1], LARGE, behind, record) != 0) {
+    write_request(q.command, q.ids, q.count, room, (size_t)-1, 0);
+    if (write_request(q.command, q.ids, q.count, LARGE, behind, record) != 0) {
         return behind;
     }
     size_t next = report[SLUSHFERRET_WRITTEN];
@@ -286,13 +229,9 @@ static void tell_inputs(void) {
 }
 
 static void run_case(void) {
-    uint32_t head[6];
-    take(head, sizeof head);
-    take_part(&scheme, head[0]);
-    take_part(&matrix, head[1]);
-    take_part(&requests, head[2]);
-    size_t room = head[3];
-    int edges = head[4] == 1;
+    struct head head = take_case(&scheme, &matrix, &requests);
+    size_t room = head.room;
+    int edges = head.edges;
     if (room > ROOM) {
         STOP("a case has more room than the driver has");
     }
@@ -308,7 +247,7 @@ static void run_case(void) {
         run_steps();
     }
     size_t behind = 0;
-    for (uint32_t k = 0; k < head[5]; k++) {
+    for (uint32_t k = 0; k < head.direct; k++) {
         behind = direct(room, behind, carried_out);
     }
     tell_inputs();
@@ -320,7 +259,7 @@ int main(void) {
     }
     answers = pattern;
     out = pattern;
-    while (heard_at < heard_length || listen()) {
+    while (another_case()) {
         run_case();
     }
     flush();

@@ -14,7 +14,7 @@ use lib.Pow.{pow-pos, pow-mono, shr-shr, high}
 use Rattle.rights.specs.Sets.{has}
 
 -- a statement about a digit holds if it holds of 0 and of 1
-bits : (P : ℕ → Type 0) → P 0 → P 1 → (x : ℕ) → P (x % 2)
+pub bits : (P : ℕ → Type 0) → P 0 → P 1 → (x : ℕ) → P (x % 2)
 bits P a b x = go (x % 2) (mod-lt x (zero-lt-suc 1))
   where
     go : (d : ℕ) → d < 2 → P d

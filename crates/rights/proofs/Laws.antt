@@ -1,12 +1,12 @@
 -- What entering, deleting and complementing do to a set, right by right and as numbers. Each is a bit operation too: that is how the code
 -- computes it, and how these laws come from the digits'.
 use mathlib.Core.Path.{_≡_, refl, sym, ap, _∙_}
-use mathlib.Core.Bool.{Bool, true, false, not, cond, xor, _&&_, _||_, and-true, and-false, or-false}
+use mathlib.Core.Bool.{Bool, true, false, not, cond, xor, _&&_, _||_, and-true, and-false}
 use Prim.Native.Nat.{ℕ, _+_, _-_, _%_, _^_, _≤_, _<_, min}
 use native.Mathlib.Nat.{add-zero, sub-zero, sub-le, le-refl, mod-lt, mod-eq-of-lt, min-eq-left}
 use native.Mathlib.Omega.{arith}
 use lib.Dec.{eqb, ltb}
-use borrow.Author.Tests.{lt-ltb, eq-eqb, ne-eqb}
+use borrow.Author.Tests.{lt-ltb}
 use lib.Bits.{bitOr, bitXor, and-mask, or-add-and, or-lt, or-zero-r, xor-zero-r}
 use lib.Pow.{pow-pos, pow-lt}
 use Rattle.rights.specs.Sets.{has, single, enterRight, deleteRight, allRights, complement}
@@ -91,21 +91,15 @@ has-complement n set r =
     ∙ ap (λ b. xor b (has set r)) (has-or set (allRights n) r) ∙ leave-out (has set r) (has (allRights n) r)
     ∙ ap (λ b. b && not (has set r)) (has-all n r)
 
-pub enter-same : (r set : ℕ) → r < 64 → has (enterRight r set) r ≡ true
-enter-same r set h = has-enter r set r ∙ ap (λ b. has set r || b) (rw (eq-eqb r r refl, lt-ltb r 64 h)) ∙ go (has set r)
-  where
-    go : (b : Bool) → (b || true) ≡ true
-    go true = refl
-    go false = refl
-
-pub enter-other : (r set q : ℕ) → (q ≡ r → ⊥) → has (enterRight r set) q ≡ has set q
-enter-other r set q h = has-enter r set q ∙ ap (λ b. has set q || (b && ltb r 64)) (ne-eqb q r h) ∙ or-false (has set q)
-
 -- ---- as numbers
 
 pub enter-keeps : (r set : ℕ) → has set r ≡ true → enterRight r set ≡ set
 unfolding enterRight
 enter-keeps r set e = rw e
+
+pub enter-adds : (r set : ℕ) → r < 64 → has set r ≡ false → enterRight r set ≡ set + 2 ^ r
+unfolding enterRight single
+enter-adds r set h e = rw (e, lt-ltb r 64 h)
 
 pub delete-keeps : (r set : ℕ) → has set r ≡ false → deleteRight r set ≡ set
 unfolding deleteRight

@@ -42,7 +42,8 @@ within m set = ltb set (2 ^ m)
 unfoldable pub partner : ℕ → ℕ → ℕ
 partner n r = min (r + n) 255
 
--- a set that has gained the partner of each of the first k rights that it lacks; of all n, it is the converted set
+-- a set that has gained the partner of each of the first k rights that it lacks; of all n, it is the converted set. `AtOnce` of Promises has it in
+-- one number
 unfoldable pub gained : ℕ → ℕ → ℕ → ℕ
 gained n zero set = set
 gained n (suc k) set = cond (has set k) (gained n k set) (enterRight (k + n) (gained n k set))

@@ -75,8 +75,8 @@ pub fn convert_scheme(scheme: &[u8], out: &mut [u8]) -> Result<usize, Refusal> {
     report.result(number).map(|()| report.written())
 }
 
-/// Writes the converted matrix, given the scheme before its conversion, and gives its length. On an error the buffer is
-/// as it was.
+/// Writes the converted matrix, given the scheme before its conversion, and gives its length. Each byte is stored to
+/// once (counted, not proved). On an error the buffer is as it was.
 pub fn convert_matrix(scheme: &[u8], matrix: &[u8], out: &mut [u8]) -> Result<usize, Refusal> {
     let mut report = Report::new();
     let number = foreign::convert_matrix(scheme, matrix, out, &mut report);

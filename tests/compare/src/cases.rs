@@ -1,4 +1,4 @@
-//! The driver's input: each case in the form that tests/library/driver.c says.
+//! The input of the C programs in tests/library: each case in the form that cases.h there says.
 
 use std::io::{self, Write};
 use std::ops::Range;
