@@ -145,7 +145,8 @@ uint8_t slushferret_convert_scheme(const uint8_t *scheme, size_t scheme_length,
 
 /* The bytes of the converted matrix, given the scheme before its conversion. In this order: the scheme's fault; the
  * matrix's; 20, 21, 22, in the scheme at 0; 9, in the output.
- * Each byte that it writes it stores to once, so that out may lie in memory that is slow to write (counted, not proved). */
+ * It stores to each byte that it writes once, and to a cell's rights at once, so that out may lie in memory that is slow to
+ * write (counted, not proved). */
 uint8_t slushferret_convert_matrix(const uint8_t *scheme, size_t scheme_length,
                                    const uint8_t *matrix, size_t matrix_length,
                                    uint8_t *out, size_t out_length,

@@ -1,5 +1,6 @@
 /* Counts the stores of a matrix's conversion to the buffer that it is lent, in the code that robots link: every byte of the
- * robot's matrix is stored to once, no other byte at all, and a conversion that is refused stores nothing.
+ * robot's matrix is stored to once, a cell's rights by one instruction; no other byte at all, and a conversion that is refused
+ * stores nothing.
  *
  *   stores          of the cases from standard input (cases.h)
  *   stores control  of 32 stores to one cell, right by right, made here: whether this machine can count them
@@ -31,7 +32,8 @@ static _Alignas(PAGE) uint8_t lent[ROOM];
 static uint8_t left[ROOM], ground[ROOM]; /* what the call leaves there, and what stands there before each store */
 static unsigned counts[2][ROOM];         /* the stores to each byte, on either ground */
 static unsigned *count;                  /* those of the ground at hand */
-static size_t stores, faulted;
+static size_t stores, faulted;           /* how many stores there were, and where the last one is */
+static size_t by[ROOM];                  /* which of them stored to a byte last */
 static size_t idle; /* the stores that changed nothing, on both grounds together */
 
 static void forbid(void) {
@@ -69,6 +71,7 @@ static void on_trap(int signal, const uint8_t *info, uint8_t *context) {
     for (size_t k = faulted < WIDEST ? 0 : faulted - WIDEST; k < ROOM && k < faulted + WIDEST; k++) {
         if (lent[k] != ground[k]) {
             count[k]++;
+            by[k] = stores;
             lent[k] = ground[k];
             changed = 1;
         }
@@ -115,7 +118,7 @@ static size_t breaking(size_t from, size_t to, unsigned often) {
 
 static struct part scheme, matrix, requests;
 static size_t report[SLUSHFERRET_REPORT];
-static size_t conversions, bytes, instructions, refusals;
+static size_t conversions, bytes, instructions, cells, refusals;
 
 static uint8_t convert(size_t room) {
     return slushferret_convert_matrix(scheme.bytes, scheme.length, matrix.bytes, matrix.length, lent, room, report, SLUSHFERRET_REPORT);
@@ -143,6 +146,24 @@ static void hold_to(unsigned number, size_t written) {
     }
 }
 
+/* The rights of a cell's record stand behind its front and two ids. */
+static void hold_cells(unsigned number, size_t written) {
+    enum { FRONT = 4, IDS = 4, RIGHTS = 8 };
+    for (size_t at = 0; at < written; at += FRONT + left[at] + 256 * (size_t)left[at + 1]) {
+        const size_t *rights = by + at + FRONT + IDS;
+        if (left[at + 2] != SLUSHFERRET_CELL) {
+            continue;
+        }
+        cells++;
+        for (size_t k = 1; k < RIGHTS; k++) {
+            if (rights[k] != rights[0]) {
+                printf("case %u: the rights of the cell at byte %zu were stored by more than one instruction\n", number, at);
+                exit(EXIT_FAILURE);
+            }
+        }
+    }
+}
+
 /* A case's conversion, and where it worked that into a buffer one byte too short. */
 static void count_case(unsigned number) {
     struct head head = take_case(&scheme, &matrix, &requests);
@@ -156,6 +177,7 @@ static void count_case(unsigned number) {
         bytes += written;
         instructions += stores;
         hold_to(number, written);
+        hold_cells(number, written);
         if (counted(convert, written - 1) != SLUSHFERRET_ROOM) {
             STOP("a buffer that is too short was taken");
         }
@@ -177,7 +199,7 @@ int main(int words, char **word) {
     for (unsigned number = 0; another_case(); number++) {
         count_case(number);
     }
-    printf("%zu conversions store to each of their %zu bytes once (%zu instructions), %zu refused ones store nothing\n", conversions, bytes,
-           instructions, refusals);
+    printf("%zu conversions store to each of their %zu bytes once, the rights of their %zu cells at once (%zu instructions); %zu refused ones store nothing\n",
+           conversions, bytes, cells, instructions, refusals);
     return EXIT_SUCCESS;
 }

@@ -1,17 +1,27 @@
--- What a function that was lent the part `&mut out[at..]` left there, said of the whole; and bytes placed behind others, or read back.
+-- What a function that was lent the part `&mut out[at..]`, or one of the first bytes, left there, said of the whole; and bytes placed behind others, or read back.
 -- Assumes nothing.
 use Prim.Native.Nat.{ℕ, _+_, _-_, _<_, _≤_}
 use native.Mathlib.Omega.{arith}
 use native.Mathlib.Nat.{zero-add, add-zero, add-assoc}
 use mathlib.Core.List.{List, [], _++_, append-nil, append-assoc}
-use mathlib.Core.Path.{_≡_, ap, _∙_}
+use mathlib.Core.Path.{_≡_, sym, ap, _∙_}
 use lib.ListN.{length, take, drop, length-append, length-drop, take-append-drop, drop-of-length-le}
-use lib.Seq.{sets, sets-eq, take-all, take-at, drop-at, drop-drop, drop-append-add, length-take-le}
+use lib.Seq.{sets, sets-eq, take-all, take-at, drop-at, drop-drop, drop-append-le, drop-append-add, length-take-le}
 use borrow.Author.Tests.{le-leb, lt-leb}
 use Rattle.records.specs.Bytes.{recordBytes}
 use Rattle.records.specs.Writing.{placed, writeBytes, writeRecord}
 use Rattle.records.specs.declared.Writing.{Writing}
 use Rattle.records.specs.declared.Writing.the-variants.{Done, Refused}
+
+-- stored in a part that is the first n bytes, it is stored in the whole
+pub first-stored : (l : List ℕ) (n : ℕ) (vs : List ℕ) → length vs ≡ n → n ≤ length l → sets (take n l) 0 vs ++ drop n l ≡ sets l 0 vs
+first-stored l n vs h k =
+    let short : length (take n l) ≡ n = length-take-le n l k in
+    let some : sets (take n l) 0 vs ≡ vs ++ drop (0 + length vs) (take n l) = sets-eq vs (take n l) 0 (omega arith) in
+    let all : sets l 0 vs ≡ vs ++ drop (0 + length vs) l = sets-eq vs l 0 (omega arith) in
+    let rest : drop (length vs) l ≡ drop (length vs) (take n l) ++ drop n l =
+    ap (drop (length vs)) (sym (take-append-drop n l)) ∙ drop-append-le (length vs) (take n l) (drop n l) (omega arith) in
+    rw (some, all, zero-add, rest) (append-assoc vs (drop (length vs) (take n l)) (drop n l))
 
 pub placed-none : (out : List ℕ) (at : ℕ) → placed out at [] ≡ out
 unfolding placed
