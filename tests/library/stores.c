@@ -34,7 +34,7 @@ static unsigned counts[2][ROOM];         /* the stores to each byte, on either g
 static unsigned *count;                  /* those of the ground at hand */
 static size_t stores, faulted;           /* how many stores there were, and where the last one is */
 static size_t by[ROOM];                  /* which of them stored to a byte last */
-static size_t idle; /* the stores that changed nothing, on both grounds together */
+static size_t idle;                      /* those that changed nothing, on both grounds together */
 
 static void forbid(void) {
     mprotect(lent, ROOM, CAN_READ);

@@ -1,4 +1,4 @@
--- What a function that was lent the part `&mut out[at..]`, or one of the first bytes, left there, said of the whole; and bytes placed behind others, or read back.
+-- What a function that was lent the part `&mut out[at..]`, or the first bytes, left there, said of the whole; and bytes placed behind others, or read back.
 -- Assumes nothing.
 use Prim.Native.Nat.{ℕ, _+_, _-_, _<_, _≤_}
 use native.Mathlib.Omega.{arith}

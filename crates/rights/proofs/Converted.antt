@@ -1,5 +1,5 @@
 -- The converted set: gained right by right it is the number that has all partners at once, and what it holds follows from that.
-use mathlib.Core.Path.{_≡_, sym, ap, _∙_}
+use mathlib.Core.Path.{_≡_, refl, sym, ap, _∙_}
 use mathlib.Core.Bool.{Bool, true, false, not, cond, _&&_}
 use Prim.Native.Nat.{ℕ, zero, suc, _+_, _-_, _*_, _/_, _%_, _^_, _≤_, _<_, min}
 use native.Mathlib.Nat.{two-mul, mul-add, min-eq-left, min-le-left, mod-lt}
@@ -9,7 +9,7 @@ use lib.Arith.{digits-lt}
 use lib.Dec.{eqb, ltb}
 use borrow.Author.Tests.{lt-ltb, le-ltb}
 use lib.Pow.{pow-pos, pow-add, mod-pow-add}
-use Rattle.rights.specs.Sets.{has, enterRight, allRights, complement, gained, converted}
+use Rattle.rights.specs.Sets.{has, allRights, complement, gained, converted}
 use Rattle.rights.specs.Promises.{AtOnce}
 use Rattle.rights.proofs.Digits.{bits, has-low, has-high}
 use Rattle.rights.proofs.Laws.{has-complement, enter-adds, complement-number}
@@ -38,20 +38,27 @@ blocks n k set = omega arith
 partner-at : (n k set r : ℕ) → set < 2 ^ n → has (set + 2 ^ n * complement k set) (r + n) ≡ (ltb r (min k 64) && not (has set r))
 partner-at n k set r l = rw blocks (has-high (complement k set) n set r l ∙ has-complement k set r)
 
+-- one right more: its partner isn't there yet, and is added unless the set has the right
+at-once-next : (n k set : ℕ) → suc k + n ≤ 64 → set < 2 ^ n → gained n k set ≡ set + 2 ^ n * complement k set →
+    gained n (suc k) set ≡ set + 2 ^ n * complement (suc k) set
+unfolding gained
+at-once-next n k set h l g = go (has set k) refl
+  where
+    now : ℕ
+    now = set + 2 ^ n * complement k set
+
+    fresh : has now (k + n) ≡ false
+    fresh = partner-at n k set k l ∙ ap (λ b. b && not (has set k)) (le-ltb k (min k 64) (min-le-left k 64))
+
+    go : (b : Bool) → has set k ≡ b → gained n (suc k) set ≡ set + 2 ^ n * complement (suc k) set
+    go true e = rw (complement-next k set (omega arith), e, g) (omega arith)
+    go false e =
+        rw (complement-next k set (omega arith), e, g, mul-add) (omega (arith, enter-adds (k + n) now (omega arith) fresh, pow-add 2 k n))
+
 pub at-once : AtOnce
 unfolding gained
 at-once n zero set h l = rw complement-none (omega arith)
-at-once n (suc k) set h l = rw (at-once n k set (omega arith) l, complement-next k set (omega arith)) (go (has set k))
-  where
-    c : ℕ
-    c = complement k set
-
-    fresh : has (set + 2 ^ n * c) (k + n) ≡ false
-    fresh = partner-at n k set k l ∙ ap (λ b. b && not (has set k)) (le-ltb k (min k 64) (min-le-left k 64))
-
-    go : (b : Bool) → cond b (set + 2 ^ n * c) (enterRight (k + n) (set + 2 ^ n * c)) ≡ set + 2 ^ n * (c + cond b 0 (2 ^ k))
-    go true = omega arith
-    go false = rw (enter-adds (k + n) (set + 2 ^ n * c) (omega arith) fresh, pow-add, mul-add) (omega arith)
+at-once n (suc k) set h l = at-once-next n k set h l (at-once n k set (omega arith) l)
 
 -- ---- the converted set: the plain rights as they were, a partner exactly where its right is lacking, and no other right
 module _ (n set : ℕ) (h : n ≤ 32) (l : set < 2 ^ n) where
