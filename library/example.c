@@ -60,15 +60,20 @@ static void print_cells(const char *whose, const uint8_t *bytes, size_t length) 
     }
 }
 
-/* runs the list and prints each answer, and what ended it if that isn't its end; the matrix afterwards is in `after` */
+/* runs the list and prints each answer, with the test that stopped it, and what ended the list if that isn't its end; the
+ * matrix afterwards is in `after` */
 static size_t run(const char *whose, const uint8_t *with, size_t with_length, const uint8_t *on, size_t on_length,
                   const uint8_t *requests, size_t requests_length, uint8_t *after) {
-    uint8_t answers[8];
+    uint8_t answers[8 * SLUSHFERRET_ANSWER_BYTES];
     size_t written = must(whose, slushferret_run(with, with_length, on, on_length, requests, requests_length, answers, sizeof answers,
                                                  after, SLUSHFERRET_MATRIX_BYTES, report, SLUSHFERRET_REPORT));
     printf("%s answers", whose);
     for (size_t k = 0; k < report[SLUSHFERRET_ANSWERS]; k++) {
-        printf(" %d", answers[k]);
+        const uint8_t *answer = answers + k * SLUSHFERRET_ANSWER_BYTES;
+        printf(" %d", answer[SLUSHFERRET_NUMBER]);
+        if (answer[SLUSHFERRET_TEST_PLACE] != SLUSHFERRET_NO_TEST) {
+            printf(" (test %d)", answer[SLUSHFERRET_TEST_PLACE]);
+        }
     }
     printf("\n");
     if (report[SLUSHFERRET_RECORD] != 0) {

@@ -15,8 +15,8 @@
  * five numbers into the lent report, as far as that has room (so SLUSHFERRET_REPORT elements hold all, and a count of 0 asks
  * for none); the slots have names below.
  *
- * A call that gives a number other than 0 has stored nothing but the report. An accepted call changes only the first
- * report[SLUSHFERRET_ANSWERS] elements of answers and only the bytes of out that it says.
+ * A call that gives a number other than 0 has stored nothing but the report. An accepted call changes only the bytes of its
+ * report[SLUSHFERRET_ANSWERS] answers, from the start of answers on, and only the bytes of out that it says.
  */
 #ifndef SLUSHFERRET_H
 #define SLUSHFERRET_H
@@ -30,7 +30,7 @@ extern "C" {
 
 /* The version of what stands here: it moves when a format or a function's meaning moves. slushferret_version gives that of
  * the archive; a program that compares the two knows that header and archive belong together. */
-#define SLUSHFERRET_VERSION 2
+#define SLUSHFERRET_VERSION 3
 
 /* the slots of a report */
 enum {
@@ -69,7 +69,7 @@ enum {
     SLUSHFERRET_IDS = 11,            /* another number of ids than the command has parameters */
     SLUSHFERRET_NO_THING = 12,       /* an id 0, or of no thing */
     SLUSHFERRET_OTHER_TYPE = 13,     /* a thing of another type */
-    SLUSHFERRET_TEST = 14,           /* a test is false */
+    SLUSHFERRET_TEST = 14,           /* a test is false; the answer says which */
     SLUSHFERRET_TAKEN = 15,          /* a create of an id that exists */
     SLUSHFERRET_FULL = 16,           /* a create when 48 things exist */
     SLUSHFERRET_GONE = 17,           /* a destroy of a thing already gone */
@@ -107,6 +107,14 @@ enum {
     SLUSHFERRET_REQUEST_BYTES = 22
 };
 
+/* An answer to a request: its bytes in the lent buffer, and the place of each. */
+enum {
+    SLUSHFERRET_NUMBER = 0,       /* the number: 0, or 10 to 17 */
+    SLUSHFERRET_TEST_PLACE = 1,   /* with 14 the place, from 0, of the command's first test that doesn't hold; else 255 */
+    SLUSHFERRET_ANSWER_BYTES = 2, /* so many bytes an answer */
+    SLUSHFERRET_NO_TEST = 255     /* the place with every number but 14 */
+};
+
 /* SLUSHFERRET_VERSION, as the archive has it. */
 uint32_t slushferret_version(void);
 
@@ -120,16 +128,18 @@ uint8_t slushferret_check_matrix(const uint8_t *scheme, size_t scheme_length,
                                  const uint8_t *matrix, size_t matrix_length,
                                  size_t *report, size_t report_length);
 
-/* Carries out a list of requests on a matrix. The answer to each (0, or 10 to 17) goes to answers, one byte each, and
- * the bytes of the matrix afterwards to out; the report says how many of each. A refused request has no effect on the
+/* Carries out a list of requests on a matrix. The answer to each goes to answers, SLUSHFERRET_ANSWER_BYTES each: the number
+ * (0, or 10 to 17), and with 14 the place, from 0, of the command's first test that doesn't hold, else 255. The bytes of the
+ * matrix afterwards go to out; the report says how many answers and how many bytes. A refused request has no effect on the
  * matrix, and the list goes on.
- * In this order: the scheme's fault; the matrix's; 9 if answers is too short; 9 if out is too short for the matrix
- * afterwards. With any of these nothing is stored.
+ * In this order: the scheme's fault; the matrix's; 9 if answers is too short for all of them; 9 if out is too short for the
+ * matrix afterwards. With any of these nothing is stored.
  * A record of the list that can't be read ends the list: what came before it is carried out, answered and written, the
  * number is 0, and the report has SLUSHFERRET_IN_REQUESTS, the record's position and, as report[SLUSHFERRET_RECORD], its
  * own number (1 to 4). That slot is 0 for a list that came to its end.
  * An out of SLUSHFERRET_MATRIX_BYTES or more is the quickest: with a shorter one the list is run twice, since the room
- * must be known before the first store. A list of n bytes has at most n / 6 requests. */
+ * must be known before the first store. A list of n bytes has at most n / 6 requests.
+ * On what the two conversions below write, the answers are the same as on what they were given, the tests' places too. */
 uint8_t slushferret_run(const uint8_t *scheme, size_t scheme_length,
                         const uint8_t *matrix, size_t matrix_length,
                         const uint8_t *requests, size_t requests_length,

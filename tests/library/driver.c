@@ -159,8 +159,8 @@ static void convert(size_t (*one)(size_t lent), size_t room, int edges) {
     }
 }
 
-/* The whole list with large buffers, with the case's room for either, and with just enough and one less of each.
- * Gives whether it was carried out. */
+/* The whole list with large buffers, with the case's room for either, with just enough and one byte less of each, and with one
+ * byte more than the answers take. Gives whether it was carried out. */
 static int run_list(size_t room, int edges) {
     const uint8_t *list = requests.bytes;
     size_t length = requests.length;
@@ -170,11 +170,13 @@ static int run_list(size_t room, int edges) {
     run(list, length, &matrix, LARGE, room, 0);
     run(list, length, &matrix, room, LARGE, 0);
     if (edges && carried_out) {
-        run(list, length, &matrix, count, written, 0);
-        run(list, length, &matrix, count, written - 1, 0);
-        if (count > 0) {
-            run(list, length, &matrix, count - 1, written, 0);
+        size_t bytes = count * SLUSHFERRET_ANSWER_BYTES;
+        run(list, length, &matrix, bytes, written, 0);
+        run(list, length, &matrix, bytes, written - 1, 0);
+        if (bytes > 0) {
+            run(list, length, &matrix, bytes - 1, written, 0);
         }
+        run(list, length, &matrix, bytes + 1, written, 0);
     }
     return carried_out;
 }
@@ -189,7 +191,7 @@ static void run_steps(void) {
         if (length > left) {
             length = left;
         }
-        run(front, length, &now, 1, SLUSHFERRET_MATRIX_BYTES, &now);
+        run(front, length, &now, SLUSHFERRET_ANSWER_BYTES, SLUSHFERRET_MATRIX_BYTES, &now);
         if (report[SLUSHFERRET_WHERE] != SLUSHFERRET_IN_NOTHING) {
             return;
         }
@@ -215,7 +217,7 @@ static size_t direct(size_t room, size_t behind, int carried_out) {
     }
     size_t next = report[SLUSHFERRET_WRITTEN];
     if (carried_out) {
-        run(record, length, &now, 1, SLUSHFERRET_MATRIX_BYTES, &now);
+        run(record, length, &now, SLUSHFERRET_ANSWER_BYTES, SLUSHFERRET_MATRIX_BYTES, &now);
     }
     return next;
 }

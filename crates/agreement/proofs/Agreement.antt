@@ -99,13 +99,13 @@ module _ (s : Scheme) (m : Matrix) (ok : T (acceptedScheme s)) (of : T (accepted
   on-paper-replies = ap replies (run-joined .sameAnswers s m (asked bytes) ok of)
 
   module _ (t : T (room bytes out)) where
-    abbrev vs : List ℕ
+    abbrev pub vs : List ℕ
     vs = replies (answers papers s (standsFor m) (asked bytes))
 
     as-many : length vs ≡ replyWidth * length (asked bytes)
     as-many = replies-length (answers papers s (standsFor m) (asked bytes)) ∙ ap (λ (n : ℕ). replyWidth * n) (answers-length papers s (standsFor m) (asked bytes))
 
-    replied : runOn s m bytes out .replies ≡ vs ++ drop (0 + length vs) out
+    pub replied : runOn s m bytes out .replies ≡ vs ++ drop (0 + length vs) out
     unfolding placed
     replied = ap (λ (r : Result). r .replies) ran ∙ rw (is-true (room bytes out) t, on-paper-replies)
 

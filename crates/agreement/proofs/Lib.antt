@@ -1,5 +1,5 @@
--- The proofs of what `Agreement`, `LibraryAgrees`, `Numbers`, `Starred` and `WrongPrograms` state, and the laws that they cite: `Obeyed` (what stored
--- replies tell), `ReadNumbers`, `FaultNumbers` and `FunctionNumbers` (which numbers a reading, a conversion, a function on values can give),
+-- The proofs of what `Agreement`, `LibraryAgrees`, `WhichTest`, `Numbers`, `Starred` and `WrongPrograms` state, and the laws that they cite: `Obeyed` (what
+-- stored replies tell), `ReadNumbers`, `FaultNumbers` and `FunctionNumbers` (which numbers a reading, a conversion, a function on values can give),
 -- `LibraryCalls` and `LibraryRuns` (a call on bytes is a call on what they are), `Computes` (what the computed ones look through).
 pub mod Computes
 pub mod Obeyed
@@ -9,6 +9,7 @@ pub mod FaultNumbers
 pub mod LibraryCalls
 pub mod LibraryRuns
 pub mod LibraryAgrees
+pub mod WhichTest
 pub mod FunctionNumbers
 pub mod Numbers
 pub mod Starred

@@ -58,7 +58,7 @@ no-zero k t e = absurd (rw e at t)
 
 module _ {A : Type 0} (refused : ℕ → ℕ → ℕ → A) (number : A → ℕ) (told : (k where′ at : ℕ) → number (refused k where′ at) ≡ k)
     (bytes : List ℕ) (small : Bytes bytes) where
-  scheme-done : (next : Scheme → ℕ → A) → number (withScheme refused bytes next) ≡ 0 → (s : Scheme) × IsScheme bytes s
+  pub scheme-done : (next : Scheme → ℕ → A) → number (withScheme refused bytes next) ≡ 0 → (s : Scheme) × IsScheme bytes s
   unfolding withScheme
   scheme-done next = by (readScheme bytes noScheme .answer) (readScheme bytes noScheme .scheme) refl (scheme-only nonzero tt tt tt tt tt tt tt bytes noScheme)
     where
@@ -77,7 +77,7 @@ module _ {A : Type 0} (refused : ℕ → ℕ → ℕ → A) (number : A → ℕ)
       by true x y t u = t
       by false x y t u = u
 
-  matrix-done : (s : Scheme) (next : Matrix → ℕ → A) → number (withMatrix refused s bytes next) ≡ 0 → (m : Matrix) × IsMatrix bytes s m
+  pub matrix-done : (s : Scheme) (next : Matrix → ℕ → A) → number (withMatrix refused s bytes next) ≡ 0 → (m : Matrix) × IsMatrix bytes s m
   unfolding withMatrix
   matrix-done s next =
       let r : MatrixAnswer × List ℕ = readMatrix bytes s noThings empty in by (r .0 .answer) (r .0 .things) (r .1) refl (matrix-told s)

@@ -13,7 +13,7 @@ use borrow.Author.Tests.{le-leb}
 use Rattle.laws.proofs.Bools.{is-true}
 use Rattle.model.specs.Request.{Request, run}
 use Rattle.model.specs.Answers.{replyWidth}
-use Rattle.model.specs.Seats.{Matrix, seats, standsFor}
+use Rattle.model.specs.Seats.{Matrix, noThings, seats, standsFor}
 use Rattle.model.specs.Accepted.{acceptedScheme, acceptedMatrix}
 use Rattle.model.specs.declared.Scheme.{Scheme}
 use Rattle.records.specs.Writing.{placed}
@@ -22,6 +22,7 @@ use Rattle.records.specs.declared.Reading.the-variants as reading
 use Rattle.records.proofs.PlacedLaws.{take-through-placed}
 use Rattle.matrix_bytes.specs.Answers.{readMatrix}
 use Rattle.matrix_bytes.specs.FunctionTrips.{reseated}
+use Rattle.matrix_bytes.proofs.ReadMatrix.{by-head}
 use Rattle.matrix_bytes.proofs.RoundTrips.{round-trips}
 use Rattle.request_list.specs.List.{Listed, readList}
 use Rattle.engine.specs.List.{Result, repliesTo, runOn}
@@ -29,11 +30,12 @@ use Rattle.engine.specs.declared.answers.RunAnswer.{RunAnswer}
 use Rattle.engine.specs.declared.answers.RunAnswer.the-variants as ended
 use Rattle.robot.specs.Library.{Called, Ran, bytesAfter, endedBy, notRun, runMatrix, runAgainst, runBytes}
 use Rattle.robot.specs.Inner.Parts.{endingBy}
-use Rattle.robot.proofs.RunLaws.{all-kept, always-fits, ended-told}
-use Rattle.agreement.specs.LibraryAgrees.{stored, written, besidesWritten, matrixAfter, HasRoom, IsScheme, IsMatrix, AllCarriedOut}
+use Rattle.robot.proofs.RunLaws.{read-accepted, all-kept, always-fits, ended-told}
+use Rattle.robot.proofs.CallLaws.{scheme-accepted}
+use Rattle.agreement.specs.LibraryAgrees.{stored, written, besidesWritten, matrixAfter, Bytes, HasRoom, IsScheme, IsMatrix, AllCarriedOut}
 use Rattle.agreement.specs.Agreement.{leftBy, CarriedOut}
 use Rattle.agreement.proofs.Agreement.{asked, room, ranIf, ran}
-use Rattle.agreement.proofs.LibraryCalls.{with-scheme, with-matrix}
+use Rattle.agreement.proofs.LibraryCalls.{empty, with-scheme, with-matrix, scheme-done, matrix-done}
 
 -- a call tells what a run told, with the size of what it wrote
 pub record AsRun (s : Scheme) (c : Ran) (r : Result) : Type 0 where
@@ -127,6 +129,18 @@ module _ {scheme matrix : List ℕ} {s : Scheme} {m : Matrix} (h : Held scheme m
       by true true r e = (tt, tt)
       by true false r e = absurd (omega arith)
       by false b r e = absurd (omega arith)
+
+-- one that gave 0 has read both
+pub call-held : (scheme matrix requests results out : List ℕ) → Bytes scheme → Bytes matrix → runBytes scheme matrix requests results out .called .number ≡ 0 →
+    (s : Scheme) × (m : Matrix) × Held scheme matrix s m
+unfolding runBytes runAgainst
+call-held scheme matrix requests results out small small′ e =
+    let (s, is) = scheme-done (notRun results out) (λ r. r .called .number) (λ k x at. refl) scheme small _ e in
+    let against = with-scheme (notRun results out) scheme s (λ s n. runAgainst matrix requests results out s) is in
+    let (m, is′) = matrix-done (notRun results out) (λ r. r .called .number) (λ k x at. refl) matrix small′ s _ (rw against at e) in
+    let ok = scheme-accepted scheme small _ (sym is) _ refl in
+    let of = read-accepted matrix s ok noThings empty (m .cells) _ _ small′ (sym is′ ∙ by-head matrix s noThings empty ok) refl in
+    (s, m, record { ok = ok; of = of; isScheme = is; isMatrix = is′ })
 
 -- ---- two calls whose runs ended alike tell the same but for the bytes written
 alike : (x y : ℕ) (a : RunAnswer) → (endingBy x a .number ≡ endingBy y a .number) × (besidesWritten (endingBy x a) ≡ besidesWritten (endingBy y a))

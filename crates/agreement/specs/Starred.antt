@@ -9,7 +9,7 @@ use Rattle.laws.specs.Check.{all}
 use Rattle.model.specs.Answers.{replyWidth, replyBytes}
 use Rattle.model.specs.Papers.{papers}
 use Rattle.model.specs.Seats.{Matrix, seats, standsFor, known}
-use Rattle.model.specs.KeyExample.{keyScheme, keyMatrix, ask, says, is, sameNumbers, cellIs, isTrue, starred, Claim as Asked}
+use Rattle.model.specs.KeyExample.{keyScheme, keyMatrix, ask, says, stopsAt, is, sameNumbers, cellIs, isTrue, starred, Claim as Asked}
 use Rattle.model.specs.declared.Scheme.{Scheme}
 use Rattle.records.specs.Bytes.{eachBytes}
 use Rattle.records.specs.declared.Writing.{Writing}
@@ -68,6 +68,14 @@ allStarred =
       requests = ask 1 (9 ∷ 12 ∷ []) ∷ ask 0 (5 ∷ 9 ∷ []) ∷ [];
       replies = says 0 ∷ says 0 ∷ [];
       cells = is 9 12 90 ∷ is 9 9 180 ∷ [];
+      things = [];
+    })
+    -- and then the robot can't load again: stopped by the same test as the office
+    ∷ robot (record {
+      of = keyScheme;
+      requests = ask 1 (9 ∷ 12 ∷ []) ∷ ask 0 (5 ∷ 9 ∷ []) ∷ ask 1 (9 ∷ 12 ∷ []) ∷ [];
+      replies = says 0 ∷ says 0 ∷ stopsAt 1 ∷ [];
+      cells = [];
       things = [];
     })
     -- the converted scheme: 55 bytes, head 05 00 01 00 08 03 03 00 02

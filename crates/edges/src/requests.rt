@@ -12,7 +12,7 @@ fn request(b: &[u8], s: Scheme, th: Things, cells: &mut [u64]) -> Things {
     let n = b.len() / 2 % 11;
     let stepped = engine::request(s, th, cells, case::one_at(b, 0), &ids[0..n]);
     let answer = stepped.answer;
-    print::byte(answer.number);
+    print::pair(answer.number, answer.test as usize);
     stepped.things
 }
 

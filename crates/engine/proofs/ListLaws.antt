@@ -5,12 +5,12 @@ use native.Mathlib.Omega.{arith}
 use native.Mathlib.Nat.{zero-add, add-zero}
 use mathlib.Core.Path.{_≡_, refl, ap, _∙_}
 use mathlib.Core.Bool.{Bool, true, false, _&&_}
-use mathlib.Core.List.{List, [], _∷_, _++_, append-nil, append-assoc}
+use mathlib.Core.List.{List, [], _∷_, _++_, map, append-nil, append-assoc}
 use lib.Dec.{T}
 use lib.ListN.{length, getD, length-append}
 use lib.Seq.{sets, length-sets}
 use borrow.Author.Tests.{le-leb, lt-leb}
-use Rattle.model.specs.Answers.{replyTo, replyWidth, replyBytes}
+use Rattle.model.specs.Answers.{replyTo, replyWidth, replyBytes, repliesIn}
 use Rattle.model.specs.Request.{Request, View, Answer, answer, after, step, run, answers}
 use Rattle.model.specs.Seats.{Matrix, matrixOf, seats}
 use Rattle.model.specs.Accepted.{acceptedScheme, acceptedMatrix}
@@ -19,6 +19,7 @@ use Rattle.model.specs.declared.Reply.{Reply}
 use Rattle.model.specs.declared.Scheme.{Scheme}
 use Rattle.model.specs.declared.Verdict.{Verdict}
 use Rattle.model.proofs.Joined.{kept}
+use Rattle.model.proofs.ReplyLaws.{replies-back}
 use Rattle.records.specs.Bytes.{eachBytes}
 use Rattle.records.specs.declared.Reading.{Reading}
 use Rattle.records.proofs.BytesLaws.{sets-append}
@@ -39,7 +40,7 @@ use Rattle.engine.specs.declared.answers.RunAnswer.{RunAnswer}
 use Rattle.engine.specs.declared.answers.RunAnswer.the-variants.{Whole, Refused}
 use Rattle.engine.proofs.StepLaws.{answer-back, refusedWith, no-command, command-step}
 
--- ---- how long the replies are
+-- ---- the replies: how long they are, and what they read as
 
 pub reply-long : (r : Reply) → length (replyBytes r) ≡ replyWidth
 unfolding replyBytes
@@ -57,6 +58,13 @@ replies-length (a ∷ rest) = length-append (replyBytes (replyTo a)) _ ∙ omega
 
 replies-long : (s : Scheme) (m : Matrix) (qs : List Request) → length (repliesTo s m qs) ≡ replyWidth * length qs
 replies-long s m qs = omega (arith, replies-length (answers seats s m qs), answers-length seats s m qs)
+
+-- they read as these replies, and what is behind them
+pub replies-stored : (list : List Answer) (more : List ℕ) →
+    repliesIn (eachBytes (λ (a : Answer). replyBytes (replyTo a)) list ++ more) ≡ map replyTo list ++ repliesIn more
+replies-stored [] more = refl
+replies-stored (a ∷ list) more =
+    rw (append-assoc, replies-back (replyTo a) (eachBytes (λ (a : Answer). replyBytes (replyTo a)) list ++ more), replies-stored list more)
 
 -- ---- what the step of a request that was read gives
 

@@ -6,7 +6,7 @@ ghost use mathlib.Core.Option.{some};
 ghost use mathlib.Core.Path.{_≡_};
 ghost use Prim.Native.Nat.{_*_};
 ghost use lib.Seq.{sets};
-ghost use Rattle.model.specs.Answers.{verdictOf, replyTo, replyWidth, replyBytes};
+ghost use Rattle.model.specs.Answers.{verdictOf, testPlace, replyTo, replyWidth, replyBytes};
 ghost use Rattle.model.specs.Request.{at};
 ghost use Rattle.engine.specs.Inner.Carry.{answerOf};
 
@@ -16,12 +16,29 @@ pub(crate) fn refused(number: u8) -> Verdict
     Verdict::Refused(Refusal { number, place: 0 })
 }
 
+// A refusal's place is a test's only with 14.
+fn test_place(r: Refusal) -> u8
+    ensures { λ p. ⌜ p ≡ testPlace (some r) ⌝ }
+{
+    if r.number == 14 {
+        r.place
+    } else {
+        Reply::NO_TEST
+    }
+}
+
 pub(crate) fn reply(answer: Verdict) -> Reply
     ensures { λ r. ⌜ r ≡ replyTo (answerOf answer) ⌝ }
 {
     match answer {
-        Verdict::Done => Reply { number: 0 },
-        Verdict::Refused(r) => Reply { number: r.number },
+        Verdict::Done => Reply {
+            number: 0,
+            test: Reply::NO_TEST,
+        },
+        Verdict::Refused(r) => Reply {
+            number: r.number,
+            test: test_place(r),
+        },
     }
 }
 
@@ -33,5 +50,6 @@ pub(crate) fn put_reply(out: &mut [u8], n: usize, r: Reply)
     if n <= out.len() / Reply::WIDTH {
         let at = n * Reply::WIDTH;
         records::put1(out, at, r.number);
+        records::put1(out, at + 1, r.test);
     }
 }

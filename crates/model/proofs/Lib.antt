@@ -20,3 +20,4 @@ pub mod Translation
 pub mod Refusals
 pub mod ReplyLaws
 pub mod Numbers
+pub mod FirstTest

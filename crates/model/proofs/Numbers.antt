@@ -13,10 +13,10 @@ Numbered r = T (between 10 17 (r .number))
 
 numbered : EveryRefusal Numbered
 unfolding between
-numbered = record { noCommand = tt; otherCount = tt; noThing = tt; otherType = tt; falseTest = λ p. tt; mayNot = λ p. tt; isFull = λ p. tt; isGone = λ p. tt }
+numbered = record { noCommand = tt; otherCount = tt; noThing = tt; otherType = tt; mayNot = λ p. tt; isFull = λ p. tt; isGone = λ p. tt }
 
 pub request-numbers : RequestNumbers
-request-numbers M view s m q = go (answer (step view s m q)) (request-gives Numbered numbered view s m q)
+request-numbers M view s m q = go (answer (step view s m q)) (request-gives Numbered numbered view s m q (λ c is k first. unfold between in tt))
   where
     go : (a : Answer) → IfRefused Numbered a → T (tellsRequest a)
     go none h = unfold tellsRequest in tt

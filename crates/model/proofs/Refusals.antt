@@ -1,6 +1,8 @@
 -- Where the refusal of a request comes from: what holds of each refusal that one of its checks can give, holds of its answer.
 -- Assumes nothing.
-use Prim.Native.Nat.{ℕ, suc}
+use Prim.Native.Nat.{ℕ, suc, _+_}
+use native.Mathlib.Nat.{zero-add, add-zero, add-suc, suc-add}
+use mathlib.Core.Path.{_≡_, refl, ap}
 use mathlib.Core.Bool.{Bool, true, false, not, cond}
 use mathlib.Core.Option.{Option, none, some}
 use mathlib.Core.List.{List, [], _∷_}
@@ -9,10 +11,11 @@ use lib.ListN.{length, getElem?}
 use Rattle.rights.specs.Numberings.{parameter, sameType}
 use Rattle.rights.specs.declared.Right.{Right}
 use Rattle.rights.specs.declared.ThingType.{ThingType}
-use Rattle.laws.specs.Check.{_orElse_, must, isSome}
+use Rattle.laws.specs.Check.{_orElse_, must, isSome, all}
 use Rattle.model.specs.Scheme.{parametersOf, testsOf, operationsOf, commandsOf, isNew}
 use Rattle.model.specs.Request.{Request, Thing, View, at, Answer, Outcome, done, refused, answer, isId, unlessFault, andThen, typeFault, placeFault, placesFault}
 use Rattle.model.specs.Request.{holds, testsFault, act, operate, operateAll, carryOut, carryOutIf, step}
+use Rattle.model.specs.FirstTest.{FirstFalse}
 use Rattle.model.specs.declared.Test.{Test}
 use Rattle.model.specs.declared.Code.{Code}
 use Rattle.model.specs.declared.Code.the-variants.{Enter, Delete, Create, Destroy}
@@ -21,18 +24,46 @@ use Rattle.model.specs.declared.Command.{Command}
 use Rattle.model.specs.declared.Refusal.{Refusal}
 use Rattle.model.specs.declared.Scheme.{Scheme}
 
+-- ---- tests: one that doesn't hold stops, one that holds hands on to those behind it
+
+module _ {M : Type 0} (view : View M) (m : M) (ids : List ℕ) where
+  pub tests-stop : (p : ℕ) (t : Test) (ts : List Test) → holds view m ids t ≡ false → testsFault view m ids p (t ∷ ts) ≡ some (at 14 p)
+  unfolding testsFault must _orElse_
+  tests-stop p t ts e = rw e
+
+  pub tests-go-on : (p : ℕ) (t : Test) (ts : List Test) → holds view m ids t ≡ true → testsFault view m ids p (t ∷ ts) ≡ testsFault view m ids (suc p) ts
+  unfolding testsFault must _orElse_
+  tests-go-on p t ts e = rw e
+
+  false-first : (t : Test) (ts : List Test) → holds view m ids t ≡ false → FirstFalse view m ids (t ∷ ts) 0
+  unfolding all
+  false-first t ts e = record { before = []; test = t; later = ts; are = refl; place = refl; hold = tt; fails = e }
+
+  false-behind : (t : Test) (ts : List Test) (k : ℕ) → holds view m ids t ≡ true → FirstFalse view m ids ts k → FirstFalse view m ids (t ∷ ts) (suc k)
+  unfolding all
+  false-behind t ts k e first = record {
+    before = t ∷ first .before;
+    test = first .test;
+    later = first .later;
+    are = ap (λ (l : List Test). t ∷ l) (first .are);
+    place = ap suc (first .place);
+    hold = rw e (first .hold);
+    fails = first .fails;
+  }
+
+-- ---- where a refusal comes from
+
 -- the refusal, if there is one, is so
 unfoldable pub IfRefused : (Refusal → Type 0) → Answer → Type 0
 IfRefused P none = Unit {0}
 IfRefused P (some r) = P r
 
--- all the refusals that a request can meet are so
+-- all the refusals that a request can meet are so; 14 is asked for apart, since of that it is known which test gave it
 pub record EveryRefusal (P : Refusal → Type 0) : Type 0 where
   pub noCommand : P (at 10 0)
   pub otherCount : P (at 11 0)
   pub noThing : P (at 12 0)
   pub otherType : P (at 13 0)
-  pub falseTest : (p : ℕ) → P (at 14 p)
   pub mayNot : (p : ℕ) → P (at 15 p)
   pub isFull : (p : ℕ) → P (at 16 p)
   pub isGone : (p : ℕ) → P (at 17 p)
@@ -80,10 +111,17 @@ module _ (P : Refusal → Type 0) where
           or-give _ _ (or-give _ _ (must-give (isId x) (at 12 0) (each .noThing)) (cond-give (isNew os (parameter p)) _ (type-gives t (view .thing m x))))
           (places-give m os (suc p) ts xs)
 
-      tests-give : (m : M) (ids : List ℕ) (p : ℕ) (ts : List Test) → IfRefused P (testsFault view m ids p ts)
-      unfolding testsFault IfRefused
-      tests-give m ids p [] = tt
-      tests-give m ids p (t ∷ ts) = or-give _ _ (must-give (holds view m ids t) (at 14 p) (each .falseTest p)) (tests-give m ids (suc p) ts)
+      tests-give : (m : M) (ids : List ℕ) (p : ℕ) (ts : List Test) → ((k : ℕ) → FirstFalse view m ids ts k → P (at 14 (p + k))) →
+          IfRefused P (testsFault view m ids p ts)
+      unfolding IfRefused
+      tests-give m ids p [] law = unfold testsFault in tt
+      tests-give m ids p (t ∷ ts) law = go (holds view m ids t) refl (tests-give m ids (suc p) ts)
+        where
+          go : (b : Bool) → holds view m ids t ≡ b →
+              (((k : ℕ) → FirstFalse view m ids ts k → P (at 14 (suc p + k))) → IfRefused P (testsFault view m ids (suc p) ts)) →
+              IfRefused P (testsFault view m ids p (t ∷ ts))
+          go true e again = rw (tests-go-on view m ids p t ts e) (again (λ k first. rw (suc-add p k) (rw (add-suc p k) at (law (suc k) (false-behind view m ids t ts k e first)))))
+          go false e again = rw (tests-stop view m ids p t ts e) (rw add-zero at (law 0 (false-first view m ids t ts e)))
 
       act-gives : (p : ℕ) (c : Code) (r : Right) (x y : ℕ) (t : ThingType) (m : M) → IfRefused P (answer (act view p c r x y t m))
       unfolding act answer IfRefused
@@ -100,15 +138,18 @@ module _ (P : Refusal → Type 0) where
       operations-give types ids p [] m = tt
       operations-give types ids p (o ∷ os) m = then-give _ _ (act-gives p (o .code) _ _ _ _ m) (operations-give types ids (suc p) os)
 
-      command-gives : (m : M) (ids : List ℕ) (c : Option Command) → IfRefused P (answer (carryOutIf view m ids c))
+      command-gives : (m : M) (ids : List ℕ) (o : Option Command) →
+          ((c : Command) → o ≡ some c → (k : ℕ) → FirstFalse view m ids (testsOf (c .tests)) k → P (at 14 k)) → IfRefused P (answer (carryOutIf view m ids o))
       unfolding carryOutIf carryOut answer IfRefused
-      command-gives m ids none = each .noCommand
-      command-gives m ids (some c) =
+      command-gives m ids none law = each .noCommand
+      command-gives m ids (some c) law =
           unless-give _ _
           (or-give _ _ (must-give (eqb (length ids) (length (parametersOf (c .parameters)))) (at 11 0) (each .otherCount))
-          (or-give _ _ (places-give m (operationsOf (c .operations)) 0 (parametersOf (c .parameters)) ids) (tests-give m ids 0 (testsOf (c .tests)))))
+          (or-give _ _ (places-give m (operationsOf (c .operations)) 0 (parametersOf (c .parameters)) ids) (tests-give m ids 0 (testsOf (c .tests)) (λ k first. rw zero-add (law c refl k first)))))
           (operations-give (parametersOf (c .parameters)) ids 0 (operationsOf (c .operations)) m)
 
-      pub request-gives : (s : Scheme) (m : M) (q : Request) → IfRefused P (answer (step view s m q))
+      pub request-gives : (s : Scheme) (m : M) (q : Request) →
+          ((c : Command) → getElem? (commandsOf s) (q .command) ≡ some c → (k : ℕ) → FirstFalse view m (q .ids) (testsOf (c .tests)) k → P (at 14 k)) →
+          IfRefused P (answer (step view s m q))
       unfolding step
       request-gives s m q = command-gives m (q .ids) (getElem? (commandsOf s) (q .command))

@@ -57,9 +57,12 @@ pub record Claim : Type 0 where
 abbrev pub ask : ℕ → List ℕ → Request
 ask c ids = record { command = c; ids = ids }
 
--- a reply with this number
+-- a reply with this number, other than 14; and one with 14, of this test
 abbrev pub says : ℕ → Reply
-says k = record { number = k }
+says k = record { number = k; test = 255 }
+
+abbrev pub stopsAt : ℕ → Reply
+stopsAt p = record { number = 14; test = p }
 
 abbrev pub is : ℕ → ℕ → ℕ → Cell
 is x y v = record { row = x; column = y; holds = v }
@@ -92,7 +95,7 @@ unfoldable pub starred : List Claim
 starred =
     record { of = keyScheme; requests = ask 1 (9 ∷ 12 ∷ []) ∷ []; replies = says 0 ∷ []; cells = is 9 12 10 ∷ []; things = [] }
     ∷ record { of = keyScheme; requests = ask 1 (9 ∷ 12 ∷ []) ∷ ask 0 (5 ∷ 9 ∷ []) ∷ []; replies = says 0 ∷ says 0 ∷ []; cells = is 9 9 4 ∷ []; things = [] }
-    ∷ record { of = keyScheme; requests = ask 1 (9 ∷ 12 ∷ []) ∷ ask 0 (5 ∷ 9 ∷ []) ∷ ask 1 (9 ∷ 12 ∷ []) ∷ []; replies = says 0 ∷ says 0 ∷ says 14 ∷ []; cells = []; things = [] }
+    ∷ record { of = keyScheme; requests = ask 1 (9 ∷ 12 ∷ []) ∷ ask 0 (5 ∷ 9 ∷ []) ∷ ask 1 (9 ∷ 12 ∷ []) ∷ []; replies = says 0 ∷ says 0 ∷ stopsAt 1 ∷ []; cells = []; things = [] }
     ∷ record { of = keyScheme; requests = ask 0 (9 ∷ 9 ∷ []) ∷ ask 0 (5 ∷ 8 ∷ []) ∷ ask 0 (5 ∷ []) ∷ ask 2 [] ∷ []; replies = says 13 ∷ says 12 ∷ says 11 ∷ says 10 ∷ []; cells = is 5 9 1 ∷ is 9 12 2 ∷ []; things = [] }
     ∷ record { of = twoDestroys; requests = ask 0 (9 ∷ 9 ∷ []) ∷ []; replies = says 17 ∷ []; cells = is 9 12 2 ∷ []; things = 9 ∷ [] }
     ∷ []

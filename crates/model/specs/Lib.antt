@@ -1,6 +1,6 @@
 -- What a customer has to believe, in the outline's order. `Scheme`, `Request`, `Papers`: the model. `Seats`, `Arrays`: how it lies in memory.
 -- `Accepted`: what no reading refuses. `KeyExample`: the starred examples. `Promises`: what is proved of all this.
--- `Translation`: a theorem by itself, of two schemes that do the same.
+-- Theorems by themselves: `FirstTest`, which test stopped a request; `Translation`, of two schemes that do the same.
 pub mod Scheme
 pub mod Request
 pub mod Answers
@@ -10,4 +10,5 @@ pub mod Arrays
 pub mod Accepted
 pub mod KeyExample
 pub mod Promises
+pub mod FirstTest
 pub mod Translation

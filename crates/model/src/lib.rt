@@ -80,9 +80,11 @@ pub enum Verdict {
     Refused(Refusal),
 }
 
-// What is told of it: the outline's number, 0 for success.
+// What is told of it: the outline's number, 0 for success; and with 14 the place, from 0, of the test that doesn't hold, with every other number
+// `NO_TEST`.
 pub struct Reply {
     pub number: u8,
+    pub test: u8,
 }
 
 // The limits of the outline. `PLACES` is the same number as an array's length, which is of another type.
@@ -117,6 +119,9 @@ impl Things {
 }
 
 impl Reply {
+    // No command has as many tests.
+    pub const NO_TEST: u8 = 255;
+
     // How many bytes it takes in a buffer.
-    pub const WIDTH: usize = 1;
+    pub const WIDTH: usize = 2;
 }

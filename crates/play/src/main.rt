@@ -13,7 +13,7 @@ fn input(path: &[u8], buf: &mut [u8]) -> usize {
     }
 }
 
-// The largest text, of 10,922 requests, has 142,024 bytes at most.
+// The largest text, of 10,922 requests, has 185,717 bytes at most.
 fn room() -> [u8; 262144] {
     [0; 262144]
 }

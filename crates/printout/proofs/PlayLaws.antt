@@ -38,16 +38,9 @@ use Rattle.printout.specs.Text.{heading, badLine, requestLines, endingLi
 use Rattle.printout.specs.Inner.Ending.{listText}
 use Rattle.request_list.proofs.ListLaws.{few-requests}
 use Rattle.printout.proofs.RequestLaws.{few-lines, few-bad, few-ending, lines-more}
-use Rattle.model.proofs.ReplyLaws.{replies-back}
+use Rattle.engine.proofs.ListLaws.{replies-stored}
 
 -- ---- a run of an accepted matrix, with room for a reply per byte
-
--- the bytes of replies read as these, and what is behind them
-replies-stored : (list : List Answer) (more : List ℕ) →
-    repliesIn (eachBytes (λ (a : Answer). replyBytes (replyTo a)) list ++ more) ≡ map replyTo list ++ repliesIn more
-replies-stored [] more = refl
-replies-stored (a ∷ list) more =
-    rw (append-assoc, replies-back (replyTo a) (eachBytes (λ (a : Answer). replyBytes (replyTo a)) list ++ more), replies-stored list more)
 
 module _ (s : Scheme) (m : Matrix) (ok : T (acceptedScheme s)) (of : T (acceptedMatrix (s .head) m)) (bytes buffer : List ℕ)
     (room : replyWidth * length bytes ≤ length buffer) (ran : Ran) (cells replies : List ℕ)

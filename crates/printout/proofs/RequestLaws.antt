@@ -30,12 +30,12 @@ use Rattle.request_list.proofs.ListLaws.{endOf, Counting, counting-start, count
 
 -- ---- how many, and how long
 
-pub few-lines : (k : ℕ) (qs : List Request) (rs : List Reply) → length (requestLines k qs rs) ≤ 63 * length qs
+pub few-lines : (k : ℕ) (qs : List Request) (rs : List Reply) → length (requestLines k qs rs) ≤ 84 * length qs
 unfolding requestLines
 few-lines k [] rs = omega arith
 few-lines k (q ∷ qs) [] = omega arith
 few-lines k (q ∷ qs) (r ∷ rs) =
-    let l = k ∷ q .command ∷ r .number ∷ [] in
+    let l = k ∷ q .command ∷ r .number ∷ r .test ∷ [] in
     omega (arith, length-append (line l) (requestLines (suc k) qs rs), few-in-line l, few-lines (suc k) qs rs)
 
 pub few-bad : (at k : ℕ) → length (badLine at k) ≤ 46

@@ -22,10 +22,11 @@ use Rattle.model.specs.Arrays.{noScheme}
 
 -- ---- the lines with words
 
--- "request command result"
+-- "request command result test"
 unfoldable pub heading : List ℕ
 heading =
-    114 ∷ 101 ∷ 113 ∷ 117 ∷ 101 ∷ 115 ∷ 116 ∷ 32 ∷ 99 ∷ 111 ∷ 109 ∷ 109 ∷ 97 ∷ 110 ∷ 100 ∷ 32 ∷ 114 ∷ 101 ∷ 115 ∷ 117 ∷ 108 ∷ 116 ∷ 10 ∷ []
+    114 ∷ 101 ∷ 113 ∷ 117 ∷ 101 ∷ 115 ∷ 116 ∷ 32 ∷ 99 ∷ 111 ∷ 109 ∷ 109 ∷ 97 ∷ 110 ∷ 100 ∷ 32 ∷ 114 ∷ 101 ∷ 115 ∷ 117 ∷ 108 ∷ 116 ∷ 32
+    ∷ 116 ∷ 101 ∷ 115 ∷ 116 ∷ 10 ∷ []
 
 -- "bad", the record's position and the refusal's number
 unfoldable pub badLine : ℕ → ℕ → List ℕ
@@ -38,9 +39,9 @@ endLine (totals.Refused k) = badLine 0 k
 
 -- ---- requests
 
--- a request's place in the list, its command, its result
+-- a request's place in the list, its command, its result, and its test's place
 abbrev pub requestLine : ℕ → ℕ → Reply → List ℕ
-requestLine k command r = line (k ∷ command ∷ r .number ∷ [])
+requestLine k command r = line (k ∷ command ∷ r .number ∷ r .test ∷ [])
 
 -- of each request that has a reply; k is the first one's place
 unfoldable pub requestLines : ℕ → List Request → List Reply → List ℕ

@@ -47,7 +47,8 @@ fn put_answer(out: &mut [u8], at: usize, n: usize, command: u8, replies: &[u8]) 
     if n < replies.len() / Reply::WIDTH {
         let i = n * Reply::WIDTH;
         let number = replies[i];
-        return put_request(out, at, n, command, Reply { number });
+        let test = replies[i + 1];
+        return put_request(out, at, n, command, Reply { number, test });
     }
     at
 }

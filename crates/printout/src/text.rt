@@ -10,7 +10,7 @@ ghost use Rattle.printout.specs.Text.{heading, badLine, requestLine, end
 pub(crate) fn put_heading(out: &mut [u8]) -> usize
     ensures { λ r. ⌜ _≡_ {A = ℕ × List ℕ} (r, now (out .exit)) (putText (now (out .entry)) 0 heading) ⌝ }
 {
-    lines::put_text(out, 0, b"request command result\n")
+    lines::put_text(out, 0, b"request command result test\n")
 }
 
 pub(crate) fn put_bad(out: &mut [u8], at: usize, position: usize, number: u8) -> usize
@@ -20,7 +20,7 @@ pub(crate) fn put_bad(out: &mut [u8], at: usize, position: usize, number: u8) ->
     lines::put_line(out, p, &[position as u64, number as u64])
 }
 
-// A request's place in its list, its command, its result.
+// A request's place in its list, its command, its result, and its test's place.
 pub(crate) fn put_request(
     out: &mut [u8],
     at: usize,
@@ -33,7 +33,12 @@ pub(crate) fn put_request(
     lines::put_line(
         out,
         at,
-        &[place as u64, command as u64, reply.number as u64],
+        &[
+            place as u64,
+            command as u64,
+            reply.number as u64,
+            reply.test as u64,
+        ],
     )
 }
 

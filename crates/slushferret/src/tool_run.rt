@@ -17,6 +17,7 @@ fn room() -> [u8; 262144] {
     [0; 262144]
 }
 
+// Each request that can be read has its answer in front of the results; what is behind those isn't looked at.
 fn say_answers(requests: &[u8], results: &[u8]) -> bool {
     let mut text = room();
     let n = printout::answers_text(requests, results, &mut text);
@@ -38,7 +39,7 @@ fn run_list(scheme: &[u8], matrix: &[u8], requests: &[u8]) -> Status {
     if x != 0 {
         return refuse(&report, x);
     }
-    if !say_answers(requests, records::body(&results, 0, report[2])) {
+    if !say_answers(requests, &results) {
         return Status::Failed;
     }
     let status = write_one(OUT, records::body(&after, 0, report[3]));

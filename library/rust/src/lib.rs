@@ -4,9 +4,11 @@
 //! Nothing is allocated, and nothing is kept between two calls.
 #![no_std]
 
+mod answer;
 mod foreign;
 mod refusal;
 
+pub use answer::{Answer, ANSWER_BYTES};
 pub use refusal::{Place, Refusal};
 
 use foreign::Report;
@@ -19,7 +21,7 @@ pub const REQUEST_BYTES: usize = 22;
 /// A list that was carried out.
 #[derive(Clone, Copy, Debug, PartialEq, Eq)]
 pub struct Run {
-    /// How many answers were stored.
+    /// How many answers were stored, `ANSWER_BYTES` each; `stored` reads them.
     pub answers: usize,
     /// How many bytes the matrix afterwards has.
     pub written: usize,
@@ -27,8 +29,15 @@ pub struct Run {
     pub ended_by: Option<Refusal>,
 }
 
+impl Run {
+    /// The answers in the buffer that this run was lent, in the order of the requests.
+    pub fn stored<'a>(&self, answers: &'a [u8]) -> impl Iterator<Item = Answer> + 'a {
+        answer::all(answers).take(self.answers)
+    }
+}
+
 /// The version of the interface that this wrapper was written for.
-pub const VERSION: u32 = 2;
+pub const VERSION: u32 = 3;
 
 /// The version that the linked archive has: another one than `VERSION` means that the two don't belong together.
 pub fn version() -> u32 {
@@ -49,8 +58,8 @@ pub fn check_matrix(scheme: &[u8], matrix: &[u8]) -> Result<usize, Refusal> {
     report.result(number).map(|()| report.position())
 }
 
-/// Carries out a list of requests: an answer each (0, or 10 to 17), and the bytes of the matrix afterwards. On an error
-/// both buffers are as they were.
+/// Carries out a list of requests: an answer each, and the bytes of the matrix afterwards. On an error both buffers are as
+/// they were.
 pub fn run(
     scheme: &[u8],
     matrix: &[u8],

@@ -1,8 +1,8 @@
 //! The outline's key example through the wrapper: each function once with success and once refused.
 
 use slushferret::{
-    check_matrix, check_scheme, convert_matrix, convert_scheme, run, version, write_request, Place,
-    Refusal, VERSION,
+    check_matrix, check_scheme, convert_matrix, convert_scheme, run, version, write_request,
+    Answer, Place, Refusal, ANSWER_BYTES, VERSION,
 };
 
 const SCHEME: [u8; 47] = [
@@ -49,35 +49,50 @@ fn office_and_robot_answer_alike() {
     assert_eq!(convert_scheme(&SCHEME, &mut scheme), Ok(55));
     assert_eq!(convert_matrix(&SCHEME, &MATRIX, &mut matrix), Ok(123));
 
-    let (mut answers, mut after) = ([99; 3], [0; 123]);
+    let (mut answers, mut after) = ([99; 3 * ANSWER_BYTES], [0; 123]);
     let office = run(&SCHEME, &MATRIX, &requests(), &mut answers, &mut after).unwrap();
     assert_eq!((office.answers, office.written), (3, 75));
-    assert_eq!(answers, [0, 0, 14]);
+    assert_eq!(answers, [0, 255, 0, 255, 14, 1]);
 
-    let mut answers = [99; 3];
+    let mut answers = [99; 3 * ANSWER_BYTES];
     let robot = run(&scheme, &matrix, &requests(), &mut answers, &mut after).unwrap();
     assert_eq!((robot.answers, robot.written), (3, 123));
-    assert_eq!(answers, [0, 0, 14]);
+    assert_eq!(answers, [0, 255, 0, 255, 14, 1]);
+}
+
+#[test]
+fn a_stopped_request_says_which_test() {
+    // one answer's room more than there are requests, and an odd byte
+    let (mut answers, mut after) = ([99; 4 * ANSWER_BYTES + 1], [0; 123]);
+    let ran = run(&SCHEME, &MATRIX, &requests(), &mut answers, &mut after).unwrap();
+    assert_eq!(answers[3 * ANSWER_BYTES..], [99; ANSWER_BYTES + 1]);
+    let (done, by_test) = (answer(0, None), answer(14, Some(1)));
+    assert!(ran.stored(&answers).eq([done, done, by_test]));
+}
+
+fn answer(number: u8, test: Option<u8>) -> Answer {
+    Answer { number, test }
 }
 
 #[test]
 fn a_list_may_end_with_a_bad_record() {
-    let (mut answers, mut after) = ([99; 3], [0; 123]);
+    let (mut answers, mut after) = ([99; 3 * ANSWER_BYTES], [0; 123]);
     let list = &requests()[..25];
     let ran = run(&SCHEME, &MATRIX, list, &mut answers, &mut after).unwrap();
-    assert_eq!((ran.answers, answers), (2, [0, 0, 99]));
+    assert_eq!((ran.answers, answers), (2, [0, 255, 0, 255, 99, 99]));
     assert_eq!(ran.ended_by, Some(refusal(1, Place::Requests, 20)));
 }
 
 #[test]
 fn refused_calls_store_nothing() {
-    let (mut answers, mut after) = ([99; 2], [99; 123]);
+    let (mut answers, mut after) = ([99; 3 * ANSWER_BYTES - 1], [99; 123]);
     let ran = run(&SCHEME, &MATRIX, &requests(), &mut answers, &mut after);
     assert_eq!(ran, Err(refusal(9, Place::Answers, 0)));
-    let mut short = [99; 74];
-    let ran = run(&SCHEME, &MATRIX, &requests(), &mut [0; 3], &mut short);
+    assert_eq!((answers, after), ([99; 3 * ANSWER_BYTES - 1], [99; 123]));
+    let (mut answers, mut short) = ([99; 3 * ANSWER_BYTES], [99; 74]);
+    let ran = run(&SCHEME, &MATRIX, &requests(), &mut answers, &mut short);
     assert_eq!(ran, Err(refusal(9, Place::Output, 0)));
-    assert_eq!((answers, after, short), ([99; 2], [99; 123], [99; 74]));
+    assert_eq!((answers, short), ([99; 3 * ANSWER_BYTES], [99; 74]));
 
     let mut short = [99; 54];
     let converted = convert_scheme(&SCHEME, &mut short);

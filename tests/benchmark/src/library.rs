@@ -10,7 +10,7 @@ pub struct Buffers {
 impl Buffers {
     pub fn new() -> Buffers {
         Buffers {
-            answers: vec![0; 7_000],
+            answers: vec![0; 7_000 * slushferret::ANSWER_BYTES],
             // With this room the library runs a list only once.
             out: vec![0; slushferret::MATRIX_BYTES],
         }

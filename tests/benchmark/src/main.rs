@@ -5,6 +5,7 @@ mod loads;
 mod table;
 mod theirs;
 
+use independent::answer::Answer;
 use independent::engine::Dense;
 use independent::request::write_request;
 
@@ -65,7 +66,7 @@ fn main() {
 
 /// A run of the list less a run of an empty one: what the requests themselves take.
 fn list(table: &mut Table, name: &str, load: &Load) {
-    let (mut ours, mut theirs) = (library::Buffers::new(), vec![0; load.count]);
+    let (mut ours, mut theirs) = (library::Buffers::new(), vec![0; Answer::BYTES * load.count]);
     let start = Dense::from_matrix(&load.matrix);
     let run = |theirs: &mut [u8]| {
         let mut dense = start.clone();
@@ -74,7 +75,7 @@ fn list(table: &mut Table, name: &str, load: &Load) {
     assert_eq!(ours.run(load, &load.requests), load.count);
     assert_eq!(run(&mut theirs), load.count);
     assert_eq!(
-        ours.answers[..load.count],
+        ours.answers[..theirs.len()],
         theirs,
         "{name}: the answers differ"
     );
@@ -141,7 +142,7 @@ fn one_request(table: &mut Table, matrix: &str, load: &Load) {
     let mut ours = library::Buffers::new();
     let (answer, wanted) = theirs::one_request(s, m, request);
     assert_eq!(ours.run(load, request), 1);
-    assert_eq!(ours.answers[0], answer, "the answers differ");
+    assert_eq!(ours.answers[..answer.len()], answer, "the answers differ");
     assert_eq!(ours.out[..wanted.len()], wanted, "the matrices differ");
     table.calls(
         &format!("run one request on {matrix}"),

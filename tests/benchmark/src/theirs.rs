@@ -1,5 +1,6 @@
 //! The independent program's side, from bytes to bytes as the library's functions are.
 
+use independent::answer::Answer;
 use independent::convert;
 use independent::engine::Dense;
 use independent::matrix::{read_matrix, write_matrix, Matrix};
@@ -27,25 +28,32 @@ pub fn convert_matrix(scheme_bytes: &[u8], bytes: &[u8]) -> Vec<u8> {
     write_matrix(&matrix, &converted)
 }
 
-/// The answer, and the matrix afterwards.
-pub fn one_request(scheme_bytes: &[u8], matrix_bytes: &[u8], request: &[u8]) -> (u8, Vec<u8>) {
+/// The answer's bytes, and the matrix afterwards.
+pub fn one_request(
+    scheme_bytes: &[u8],
+    matrix_bytes: &[u8],
+    request: &[u8],
+) -> ([u8; Answer::BYTES], Vec<u8>) {
     let (scheme, matrix) = matrix(scheme_bytes, matrix_bytes);
     let mut dense = Dense::from_matrix(&matrix);
-    let mut answer = [0];
+    let mut answer = [0; Answer::BYTES];
     run_list(&scheme, &mut dense, request, &mut answer);
     let after = write_matrix(&dense.to_matrix(&scheme), &scheme);
-    (answer[0], after)
+    (answer, after)
 }
 
 /// Reads requests from the bytes without allocation, as a quick program would; how many there were.
 pub fn run_list(scheme: &Scheme, dense: &mut Dense, list: &[u8], answers: &mut [u8]) -> usize {
     let (mut at, mut count) = (0, 0);
+    let mut room = answers.chunks_exact_mut(Answer::BYTES);
     while let Some((command, ids, length)) = request(&list[at..]) {
         let mut numbers = [0; 8];
         for (number, id) in numbers.iter_mut().zip(ids.chunks_exact(2)) {
             *number = u16::from_le_bytes([id[0], id[1]]);
         }
-        answers[count] = dense.carry_out(scheme, command as usize, &numbers[..ids.len() / 2]);
+        let answer = dense.carry_out(scheme, command as usize, &numbers[..ids.len() / 2]);
+        let place = room.next().expect("there is room for all answers");
+        place.copy_from_slice(&answer.bytes());
         count += 1;
         at += length;
     }

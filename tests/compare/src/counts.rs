@@ -3,7 +3,9 @@
 use std::collections::BTreeMap;
 use std::fmt;
 
+use independent::answer::Answer;
 use independent::refusal::{Fault, Found};
+use independent::scheme::MOST_TESTS;
 
 use crate::list::Carried;
 use crate::told::{Call, Told};
@@ -19,6 +21,8 @@ pub struct Counts {
     calls: BTreeMap<u64, u64>,
     /// What requests were answered, by number.
     answers: BTreeMap<u64, u64>,
+    /// Requests that were answered 14, by the test's place.
+    stops: BTreeMap<u8, u64>,
     faults: BTreeMap<Fault, u64>,
 }
 
@@ -31,8 +35,11 @@ impl Counts {
         }
     }
 
-    pub fn answer(&mut self, number: u8) {
-        *self.answers.entry(u64::from(number)).or_default() += 1;
+    pub fn answer(&mut self, answer: Answer) {
+        *self.answers.entry(u64::from(answer.number)).or_default() += 1;
+        if answer.number == 14 {
+            *self.stops.entry(answer.test).or_default() += 1;
+        }
     }
 
     pub fn reading<T>(&mut self, read: &Result<T, Found>) {
@@ -63,6 +70,10 @@ impl fmt::Display for Counts {
         for number in 0..=LAST {
             let answers = self.answers.get(&number).unwrap_or(&0);
             writeln!(f, "{answers} requests were answered {number}")?;
+        }
+        for test in 0..MOST_TESTS {
+            let stops = self.stops.get(&test).unwrap_or(&0);
+            writeln!(f, "{stops} requests were stopped by test {test}")?;
         }
         for fault in Fault::ALL {
             let count = self.faults.get(fault).unwrap_or(&0);

@@ -1,5 +1,6 @@
 //! A list of requests carried out by the independent program: the answers, and the matrix's bytes after each of the first.
 
+use independent::answer::Answer;
 use independent::engine::carry_out;
 use independent::matrix::{write_matrix, Matrix};
 use independent::refusal::Found;
@@ -10,7 +11,7 @@ use independent::scheme::Scheme;
 pub const STEPS: usize = 60;
 
 pub struct Carried {
-    pub answers: Vec<u8>,
+    pub answers: Vec<Answer>,
     /// The matrix's bytes after each of the first requests.
     pub steps: Vec<Vec<u8>>,
     /// The matrix after them.

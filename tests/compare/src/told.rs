@@ -61,7 +61,7 @@ impl fmt::Display for Call {
             Call::ConvertMatrix { out } => write!(f, "converting the matrix into {out} bytes"),
             Call::RunList { answers, out } => write!(
                 f,
-                "running the list, with room for {answers} answers and {out} bytes"
+                "running the list, with {answers} bytes for the answers and {out} for the matrix"
             ),
             Call::RunStep { request } => {
                 write!(f, "running request {request} of the list by itself")

@@ -4,17 +4,18 @@ pub mod dense;
 
 pub use dense::Dense;
 
+use crate::answer::Answer;
 use crate::matrix::{Matrix, MOST_THINGS};
-use crate::scheme::{Operation, Scheme};
+use crate::scheme::{Command, Operation, Scheme};
 
 /// 0 and the changed matrix, or 10 to 17 and no effect at all.
-pub fn carry_out(scheme: &Scheme, matrix: &mut Matrix, command: usize, ids: &[u16]) -> u8 {
+pub fn carry_out(scheme: &Scheme, matrix: &mut Matrix, command: usize, ids: &[u16]) -> Answer {
     match carried_out(scheme, matrix, command, ids) {
         Ok(after) => {
             *matrix = after;
-            0
+            Answer::plain(0)
         }
-        Err(number) => number,
+        Err(answer) => answer,
     }
 }
 
@@ -23,14 +24,22 @@ fn carried_out(
     matrix: &Matrix,
     command: usize,
     ids: &[u16],
-) -> Result<Matrix, u8> {
+) -> Result<Matrix, Answer> {
     let Some(command) = scheme.commands.get(command) else {
-        return Err(10);
+        return Err(Answer::plain(10));
     };
     if ids.len() != command.parameters.len() {
-        return Err(11);
+        return Err(Answer::plain(11));
     }
+    check_ids(matrix, command, ids).map_err(Answer::plain)?;
+    if let Some(place) = first_false(matrix, command, ids) {
+        return Err(Answer::stopped_by(place));
+    }
+    operate(scheme, matrix, command, ids).map_err(Answer::plain)
+}
 
+/// 12 or 13 for the first place at fault.
+fn check_ids(matrix: &Matrix, command: &Command, ids: &[u16]) -> Result<(), u8> {
     for (place, (&id, &kind)) in ids.iter().zip(&command.parameters).enumerate() {
         if id == 0 {
             return Err(12);
@@ -43,18 +52,24 @@ fn carried_out(
             }
         }
     }
+    Ok(())
+}
 
+/// The place of the first test, in the command's own order, that doesn't hold on the matrix as it stands.
+fn first_false(matrix: &Matrix, command: &Command, ids: &[u16]) -> Option<usize> {
     let id_of = |place: u8| ids[place as usize];
-    for test in &command.tests {
+    command.tests.iter().position(|test| {
         let set = matrix
             .cell(id_of(test.row), id_of(test.column))
             .expect("a tested cell exists");
         let is_present = set >> test.right & 1 == 1;
-        if is_present != test.present {
-            return Err(14);
-        }
-    }
+        is_present != test.present
+    })
+}
 
+/// The matrix after all operations, or 15 to 17 for the first that can't be done.
+fn operate(scheme: &Scheme, matrix: &Matrix, command: &Command, ids: &[u16]) -> Result<Matrix, u8> {
+    let id_of = |place: u8| ids[place as usize];
     let mut after = matrix.clone();
     for operation in &command.operations {
         match *operation {

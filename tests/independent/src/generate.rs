@@ -6,6 +6,7 @@ pub mod matrices;
 pub mod random;
 pub mod requests;
 pub mod schemes;
+pub mod stops;
 
 use crate::matrix::{read_matrix, write_matrix};
 use crate::print::MOST_INPUT;
@@ -24,11 +25,20 @@ pub struct Case {
     pub room: usize,
 }
 
+/// In one of so many cases the requests of `stops` come first.
+const STOPS: usize = 8;
+
 /// The case of a seed and a number; it doesn't depend on the cases before it.
 pub fn case(seed: u64, number: u64) -> Case {
     let random = &mut Random::new(seed, number);
     let mut scheme = schemes::scheme(random);
     let mut matrix = matrices::matrix(random, &scheme);
+    // From a source of its own, so that all other cases are what they would be without it.
+    let apart = &mut Random::new(!seed, number);
+    let first = match apart.chance(1, STOPS) {
+        true => stops::stops(apart, &mut scheme, &matrix),
+        false => Vec::new(),
+    };
     let mut case = Case {
         scheme: write_scheme(&scheme),
         matrix: write_matrix(&matrix, &scheme),
@@ -36,7 +46,26 @@ pub fn case(seed: u64, number: u64) -> Case {
         direct: Vec::new(),
         room: 0,
     };
+    damage_content(random, &mut case);
 
+    // Where a damaged scheme or matrix can still be read, the requests are made for what it says now.
+    if let Ok((read, _)) = read_scheme(&case.scheme) {
+        scheme = read;
+        if let Ok(read) = read_matrix(&case.matrix, &scheme) {
+            matrix = read;
+        } else {
+            matrix = matrices::matrix(random, &scheme);
+        }
+    }
+    case.requests = requests::list(random, &scheme, &mut matrix, &first);
+    case.direct = requests::direct(random, &scheme, &matrix);
+    damage_requests(random, &mut case.requests);
+    case.room = room(random, &case);
+    case
+}
+
+/// Scheme or matrix, in about half of the cases.
+fn damage_content(random: &mut Random, case: &mut Case) {
     match random.below(20) {
         0..=5 => damage::damage(random, &mut case.scheme),
         6..=10 => damage::damage(random, &mut case.matrix),
@@ -48,26 +77,16 @@ pub fn case(seed: u64, number: u64) -> Case {
         12 if random.chance(1, 8) => case.matrix.clear(),
         _ => {}
     }
+}
 
-    // Where a damaged scheme or matrix can still be read, the requests are made for what it says now.
-    if let Ok((read, _)) = read_scheme(&case.scheme) {
-        scheme = read;
-        if let Ok(read) = read_matrix(&case.matrix, &scheme) {
-            matrix = read;
-        } else {
-            matrix = matrices::matrix(random, &scheme);
-        }
-    }
-    case.requests = requests::list(random, &scheme, &mut matrix);
-    case.direct = requests::direct(random, &scheme, &matrix);
+/// At times the list is damaged, and now and then longer than an input may be.
+fn damage_requests(random: &mut Random, requests: &mut Vec<u8>) {
     if random.chance(1, 5) {
-        damage::damage(random, &mut case.requests);
+        damage::damage(random, requests);
     }
-    if random.chance(1, 300) && !case.requests.is_empty() {
-        case.requests = case.requests.repeat(MOST_INPUT / case.requests.len() + 1);
+    if random.chance(1, 300) && !requests.is_empty() {
+        *requests = requests.repeat(MOST_INPUT / requests.len() + 1);
     }
-    case.room = room(random, &case);
-    case
 }
 
 /// A buffer's length near the length of something that will be written.

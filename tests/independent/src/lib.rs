@@ -1,5 +1,6 @@
 //! The independent reference program: written from the outline and the decided points of docs/DECISIONS.md, and not from the project's code, so that comparing the two finds errors in either.
 
+pub mod answer;
 pub mod bytes;
 pub mod convert;
 pub mod edges;

@@ -2,6 +2,7 @@
 
 use std::fmt::Write;
 
+use crate::answer::Answer;
 use crate::engine::carry_out;
 use crate::matrix::{read_matrix, Matrix};
 use crate::refusal::Refusal;
@@ -27,13 +28,15 @@ pub fn play(scheme: &[u8], matrix: &[u8], requests: &[u8]) -> String {
 
 /// The heading and a line for each request, carried out in turn; a record that can't be read ends them with `bad`, which is told beside the text.
 pub fn answers(scheme: &Scheme, matrix: &mut Matrix, requests: &[u8]) -> (String, bool) {
-    let mut text = String::from("request command result\n");
+    let mut text = String::from("request command result test\n");
     let mut at = 0;
     for position in 0.. {
         match read_request(requests, at) {
             Next::Request { request, next } => {
-                let result = carry_out(scheme, matrix, request.command as usize, &request.ids);
-                text += &format!("{position} {} {result}\n", request.command);
+                let command = request.command;
+                let Answer { number, test } =
+                    carry_out(scheme, matrix, command as usize, &request.ids);
+                text += &format!("{position} {command} {number} {test}\n");
                 at = next;
             }
             Next::End => break,

@@ -1,8 +1,9 @@
-//! Counts how often each refusal comes up over generated cases, so that it shows what a comparison covers.
+//! Counts how often each refusal comes up over generated cases, and which tests stop requests, so that it shows what a comparison covers.
 
 use std::collections::BTreeMap;
 use std::fmt;
 
+use crate::answer::Answer;
 use crate::bytes::store;
 use crate::convert::{convert_matrix, convert_scheme};
 use crate::engine::carry_out;
@@ -11,7 +12,7 @@ use crate::matrix::{find_matrix, write_matrix, Matrix};
 use crate::print::MOST_INPUT;
 use crate::refusal::{Fault, Found};
 use crate::request::{find_request, write_request};
-use crate::scheme::{find_scheme, write_scheme, Scheme};
+use crate::scheme::{find_scheme, write_scheme, Scheme, MOST_TESTS};
 
 /// What was asked: each a column of the table.
 #[derive(Clone, Copy, Debug, PartialEq, Eq, PartialOrd, Ord)]
@@ -37,6 +38,8 @@ const COLUMNS: [(Asked, &str); 6] = [
 pub struct Statistics {
     pub numbers: BTreeMap<(u8, Asked), u64>,
     pub faults: BTreeMap<Fault, u64>,
+    /// Requests that were answered 14, by the test's place.
+    pub stops: BTreeMap<u8, u64>,
 }
 
 impl Statistics {
@@ -54,6 +57,10 @@ impl Statistics {
 
     pub fn fault(&self, fault: Fault) -> u64 {
         self.faults.get(&fault).copied().unwrap_or(0)
+    }
+
+    pub fn stopped_by(&self, test: u8) -> u64 {
+        self.stops.get(&test).copied().unwrap_or(0)
     }
 
     pub fn add(&mut self, case: &Case) {
@@ -74,13 +81,20 @@ impl Statistics {
             let Some(Some((request, next))) = self.reading(Asked::RequestRecord, found) else {
                 break;
             };
-            let number = carry_out(&scheme, &mut matrix, request.command as usize, &request.ids);
-            self.note(Asked::Request, number);
+            let answer = carry_out(&scheme, &mut matrix, request.command as usize, &request.ids);
+            self.answer(answer);
             at = next;
         }
         for (command, ids) in &case.direct {
-            let number = carry_out(&scheme, &mut matrix, *command as usize, ids);
-            self.note(Asked::Request, number);
+            let answer = carry_out(&scheme, &mut matrix, *command as usize, ids);
+            self.answer(answer);
+        }
+    }
+
+    fn answer(&mut self, answer: Answer) {
+        self.note(Asked::Request, answer.number);
+        if answer.number == 14 {
+            *self.stops.entry(answer.test).or_default() += 1;
         }
     }
 
@@ -146,6 +160,10 @@ impl fmt::Display for Statistics {
                 }
                 writeln!(out)?;
             }
+        }
+        writeln!(out, "\n  test    stopped")?;
+        for test in 0..MOST_TESTS {
+            writeln!(out, "{test:>6} {:>10}", self.stopped_by(test))?;
         }
         writeln!(out, "\nnumber      count fault")?;
         for fault in Fault::ALL {

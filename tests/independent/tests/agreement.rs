@@ -2,7 +2,7 @@
 
 use independent::convert::{convert_matrix, convert_scheme};
 use independent::engine::{carry_out, Dense};
-use independent::generate::{case, matrices, random::Random, requests, schemes};
+use independent::generate::{case, matrices, random::Random, requests, schemes, stops};
 use independent::matrix::{read_matrix, write_matrix, Matrix};
 use independent::print::{play, MOST_INPUT};
 use independent::request::{read_request, write_request, Next, Request};
@@ -13,9 +13,10 @@ const SEED: u64 = 7;
 /// A valid scheme, its matrix and requests for them.
 fn valid(number: u64) -> (Scheme, Matrix, Vec<(u8, Vec<u16>)>) {
     let random = &mut Random::new(SEED, number);
-    let scheme = schemes::scheme(random);
+    let mut scheme = schemes::scheme(random);
     let matrix = matrices::matrix(random, &scheme);
-    let bytes = requests::list(random, &scheme, &mut matrix.clone());
+    let first = stops::stops(random, &mut scheme, &matrix);
+    let bytes = requests::list(random, &scheme, &mut matrix.clone(), &first);
     let mut list: Vec<(u8, Vec<u16>)> = all(&bytes)
         .into_iter()
         .map(|request| (request.command, request.ids))
@@ -50,9 +51,9 @@ fn the_two_engines_agree() {
                 "case {number}"
             );
             assert_eq!(dense.to_matrix(&scheme), matrix, "case {number}");
-            assert!(answer == 0 || matrix == before, "case {number}");
+            assert!(answer.number == 0 || matrix == before, "case {number}");
             carried += 1;
-            accepted += usize::from(answer == 0);
+            accepted += usize::from(answer.number == 0);
         }
     }
     assert!(
@@ -147,6 +148,42 @@ fn conversion_keeps_every_answer() {
         }
     }
     assert!(converted > 500, "{converted}");
+}
+
+/// It never carries out what the office refuses. Where it stops, the office stops at the same test or a later one, or carries the request out.
+#[test]
+fn a_robot_that_lacks_entries_stops_no_later() {
+    let (mut earlier, mut alone) = (0, 0);
+    for number in 0..4_000 {
+        let (scheme, matrix, list) = valid(number);
+        let Ok(new_scheme) = convert_scheme(&scheme) else {
+            continue;
+        };
+        let complete = convert_matrix(&matrix, &scheme).unwrap();
+        let poorer = lacking(&mut Random::new(SEED + 1, number), &complete);
+        for (command, ids) in list {
+            let office = carry_out(&scheme, &mut matrix.clone(), command as usize, &ids);
+            let robot = carry_out(&new_scheme, &mut poorer.clone(), command as usize, &ids);
+            match (office.number, robot.number) {
+                (14, 14) if robot.test < office.test => earlier += 1,
+                (0, 14) => alone += 1,
+                _ => assert_eq!(office, robot, "case {number}"),
+            }
+        }
+    }
+    assert!(
+        earlier > 100 && alone > 100,
+        "{earlier} stopped earlier, {alone} that the office carries out"
+    );
+}
+
+/// A quarter of all entries is gone.
+fn lacking(random: &mut Random, matrix: &Matrix) -> Matrix {
+    let mut poorer = matrix.clone();
+    for (&(row, column), &rights) in matrix.cells() {
+        poorer.set_cell(row, column, rights & (random.draw() | random.draw()));
+    }
+    poorer
 }
 
 #[test]

@@ -1,9 +1,9 @@
-//! The generator reaches every refusal number and each fault by name, and gives the same cases for the same seed.
+//! The generator reaches every refusal number, each fault by name and each test's place, and gives the same cases for the same seed.
 
 use independent::generate::{case, random::Random, schemes};
 use independent::print::MOST_INPUT;
 use independent::refusal::Fault;
-use independent::scheme::{Operation, Scheme};
+use independent::scheme::{Operation, Scheme, MOST_TESTS};
 use independent::statistics::{Asked, Statistics};
 
 const SEED: u64 = 1;
@@ -32,6 +32,9 @@ fn every_number_and_every_fault_is_reached() {
             "{}\n{statistics}",
             fault.words()
         );
+    }
+    for test in 0..MOST_TESTS {
+        assert!(statistics.stopped_by(test) > 0, "test {test}\n{statistics}");
     }
 }
 

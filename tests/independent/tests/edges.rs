@@ -42,6 +42,58 @@ fn each_label_stands_once() {
         .all(|label| !label.contains(char::is_whitespace)));
 }
 
+/// Some labels and the words behind them, worked out by hand: the number and which test stopped the request.
+const STOPS: &[(&str, &str)] = &[
+    ("key-load", "0 255"),
+    ("key-load-after", "14 1"),
+    ("robot-load-after", "14 1"),
+    ("key-retire-5", "11 255"),
+    ("load-not-signed", "14 0"),
+    ("load-not-signed-and-retired", "14 0"),
+    ("no-test-false", "0 255"),
+    ("no-test-false-robot", "0 255"),
+    ("last-test-false", "14 15"),
+    ("last-test-false-robot", "14 15"),
+    ("tests-7-to-15-false", "14 7"),
+    ("tests-7-to-15-false-robot", "14 7"),
+    ("create-at-48", "16 255"),
+    ("27-no-scheme-request", "27 255"),
+];
+
+/// The same for lists, with all that is in the answers' buffer afterwards; before, it holds 1, 2, 3 and so on.
+const LISTS: &[(&str, &str, &[u8])] = &[
+    ("list-empty", "0 0", &[]),
+    ("list-empty-room-1", "0 0", &[1]),
+    ("list-of-three-room-3", "9", &[1, 2, 3]),
+    ("list-of-three-room-4", "9", &[1, 2, 3, 4]),
+    ("list-of-three-room-5", "9", &[1, 2, 3, 4, 5]),
+    ("list-of-three", "0 3", &[0, 255, 0, 255, 14, 1]),
+    ("list-of-three-room-7", "0 3", &[0, 255, 0, 255, 14, 1, 7]),
+    ("list-bad-short", "9", &[1, 2, 3]),
+    ("list-bad-front", "1 2 20", &[0, 255, 0, 255]),
+    ("list-bad-leftover", "3 2 20", &[0, 255, 0, 255, 5]),
+];
+
+/// As the program tells what a buffer holds.
+fn sum(bytes: &[u8]) -> u64 {
+    let add = |sum: u64, byte: &u8| (sum * 1_000_003 + u64::from(*byte)) % ((1 << 40) - 87);
+    bytes.iter().fold(1, add)
+}
+
+#[test]
+fn the_first_false_test_is_told() {
+    let text = stdout();
+    let stands = |start: String| {
+        assert!(text.lines().any(|line| line.starts_with(&start)), "{start}");
+    };
+    for (label, words) in STOPS {
+        stands(format!("{label} {words} "));
+    }
+    for (label, words, buffer) in LISTS {
+        stands(format!("{label} {words} {} ", sum(buffer)));
+    }
+}
+
 /// Which numbers each public function can give, by the outline's table; a yes or no is 1 or 0, and what can't refuse gives 0. A method that tells an
 /// answer's number gives all those of its answers, one that tells a position gives 0.
 const FUNCTIONS: &[(&str, &[u8])] = &[

@@ -4,22 +4,10 @@ mod common;
 
 use common::*;
 use independent::convert::{check, convert_matrix, convert_scheme};
-use independent::engine::{carry_out, Dense};
 use independent::matrix::{read_matrix, write_matrix, Matrix, MOST_THINGS};
 use independent::print::play;
 use independent::scheme::{read_scheme, write_scheme, Command, Operation, Scheme};
 use independent::Refusal;
-
-/// Both engines must answer this, and have the same matrix after it.
-fn carries_out(scheme: &Scheme, matrix: &mut Matrix, command: usize, ids: &[u16]) -> u8 {
-    let mut dense = Dense::from_matrix(matrix);
-    let before = matrix.clone();
-    let number = carry_out(scheme, matrix, command, ids);
-    assert_eq!(number, dense.carry_out(scheme, command, ids));
-    assert_eq!(*matrix, dense.to_matrix(scheme));
-    assert!(number == 0 || *matrix == before);
-    number
-}
 
 #[test]
 fn the_scheme_has_47_bytes_and_says_what_the_outline_says() {
@@ -62,21 +50,30 @@ fn the_matrix_has_six_cells() {
 #[test]
 fn load_then_retire_then_load() {
     let (scheme, mut matrix) = (key_scheme(), key_matrix());
-    assert_eq!(carries_out(&scheme, &mut matrix, LOAD, &[9, 12]), 0);
+    assert_eq!(carries_out(&scheme, &mut matrix, LOAD, &[9, 12]), (0, 255));
     assert_eq!(matrix.cell(9, 12), Some(10));
-    assert_eq!(carries_out(&scheme, &mut matrix, RETIRE, &[5, 9]), 0);
+    assert_eq!(carries_out(&scheme, &mut matrix, RETIRE, &[5, 9]), (0, 255));
     assert_eq!(matrix.cell(9, 9), Some(4));
-    assert_eq!(carries_out(&scheme, &mut matrix, LOAD, &[9, 12]), 14);
+    assert_eq!(carries_out(&scheme, &mut matrix, LOAD, &[9, 12]), (14, 1));
 }
 
 #[test]
 fn refused_before_the_tests() {
     let (scheme, mut matrix) = (key_scheme(), key_matrix());
-    assert_eq!(carries_out(&scheme, &mut matrix, RETIRE, &[9, 9]), 13);
-    assert_eq!(carries_out(&scheme, &mut matrix, RETIRE, &[5, 8]), 12);
-    assert_eq!(carries_out(&scheme, &mut matrix, RETIRE, &[5]), 11);
-    assert_eq!(carries_out(&scheme, &mut matrix, 2, &[]), 10);
-    assert_eq!(carries_out(&scheme, &mut matrix, RETIRE, &[5; 9]), 11);
+    assert_eq!(
+        carries_out(&scheme, &mut matrix, RETIRE, &[9, 9]),
+        (13, 255)
+    );
+    assert_eq!(
+        carries_out(&scheme, &mut matrix, RETIRE, &[5, 8]),
+        (12, 255)
+    );
+    assert_eq!(carries_out(&scheme, &mut matrix, RETIRE, &[5]), (11, 255));
+    assert_eq!(carries_out(&scheme, &mut matrix, 2, &[]), (10, 255));
+    assert_eq!(
+        carries_out(&scheme, &mut matrix, RETIRE, &[5; 9]),
+        (11, 255)
+    );
 }
 
 #[test]
@@ -96,11 +93,17 @@ fn converted() {
     }
     assert_eq!(start.cells().len(), 6);
 
-    assert_eq!(carries_out(&converted, &mut start, LOAD, &[9, 12]), 0);
-    assert_eq!(carries_out(&converted, &mut start, RETIRE, &[5, 9]), 0);
+    assert_eq!(
+        carries_out(&converted, &mut start, LOAD, &[9, 12]),
+        (0, 255)
+    );
+    assert_eq!(
+        carries_out(&converted, &mut start, RETIRE, &[5, 9]),
+        (0, 255)
+    );
     assert_eq!(start.cell(9, 12), Some(90));
     assert_eq!(start.cell(9, 9), Some(180));
-    assert_eq!(carries_out(&converted, &mut start, LOAD, &[9, 12]), 14);
+    assert_eq!(carries_out(&converted, &mut start, LOAD, &[9, 12]), (14, 1));
 
     // The head is the outline's; the commands are worked out by hand from its rules.
     let expected = bytes(
@@ -135,7 +138,7 @@ fn a_command_that_destroys_one_key_twice() {
     let scheme = scheme_of(&[1, 1], &operations);
     assert!(read_scheme(&write_scheme(&scheme)).is_ok());
     let mut matrix = key_matrix();
-    assert_eq!(carries_out(&scheme, &mut matrix, 0, &[9, 9]), 17);
+    assert_eq!(carries_out(&scheme, &mut matrix, 0, &[9, 9]), (17, 255));
     assert_eq!(matrix.type_of(9), Some(1));
     assert_eq!(matrix, key_matrix());
 }
@@ -152,20 +155,20 @@ fn things(scheme: &Scheme, count: usize) -> Matrix {
 fn creates_at_the_limit() {
     let one = scheme_of(&[1], &[Operation::Create { parameter: 0 }]);
     let mut full = things(&one, MOST_THINGS);
-    assert_eq!(carries_out(&one, &mut full, 0, &[100]), 16);
-    assert_eq!(carries_out(&one, &mut full, 0, &[7]), 15);
+    assert_eq!(carries_out(&one, &mut full, 0, &[100]), (16, 255));
+    assert_eq!(carries_out(&one, &mut full, 0, &[7]), (15, 255));
 
     let mut almost = things(&one, MOST_THINGS - 1);
-    assert_eq!(carries_out(&one, &mut almost.clone(), 0, &[100]), 0);
+    assert_eq!(carries_out(&one, &mut almost.clone(), 0, &[100]), (0, 255));
     let operations = [
         Operation::Create { parameter: 0 },
         Operation::Create { parameter: 1 },
     ];
     let two = scheme_of(&[1, 2], &operations);
-    assert_eq!(carries_out(&two, &mut almost, 0, &[100, 101]), 16);
+    assert_eq!(carries_out(&two, &mut almost, 0, &[100, 101]), (16, 255));
     assert_eq!((almost.type_of(100), almost.type_of(101)), (None, None));
     // The second id exists at that moment, so 15 comes before 16.
-    assert_eq!(carries_out(&two, &mut almost, 0, &[100, 100]), 15);
+    assert_eq!(carries_out(&two, &mut almost, 0, &[100, 100]), (15, 255));
 }
 
 #[test]
@@ -214,7 +217,7 @@ fn empty_input_as_a_scheme() {
 #[test]
 fn the_printout() {
     let requests = list(&[(1, &[9, 12]), (0, &[5, 9]), (1, &[9, 12])]);
-    let expected = "request command result\n0 1 0\n1 0 0\n2 1 14\nend 3 3 4\n";
+    let expected = "request command result test\n0 1 0 255\n1 0 0 255\n2 1 14 1\nend 3 3 4\n";
     assert_eq!(
         play(&bytes(KEY_SCHEME), &bytes(KEY_MATRIX), &requests),
         expected

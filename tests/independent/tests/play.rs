@@ -20,7 +20,7 @@ fn a_bad_scheme_or_matrix_prints_one_line() {
 #[test]
 fn an_empty_list_is_a_list() {
     let text = play(&bytes(KEY_SCHEME), &bytes(KEY_MATRIX), &[]);
-    assert_eq!(text, "request command result\nend 3 2 2\n");
+    assert_eq!(text, "request command result test\nend 3 2 2\n");
 }
 
 #[test]
@@ -30,7 +30,7 @@ fn a_bad_request_record_ends_the_list() {
     let text = play(&bytes(KEY_SCHEME), &bytes(KEY_MATRIX), &requests);
     assert_eq!(
         text,
-        "request command result\n0 1 0\n1 200 10\nbad 16 1\nend 3 2 3\n"
+        "request command result test\n0 1 0 255\n1 200 10 255\nbad 16 1\nend 3 2 3\n"
     );
 }
 
@@ -40,12 +40,12 @@ fn only_the_first_65536_bytes_count() {
     let requests = list(&vec![(7, &[][..]); 10_923]);
     assert_eq!(requests.len(), 65_538);
     let text = play(&bytes(KEY_SCHEME), &bytes(KEY_MATRIX), &requests);
-    assert!(text.ends_with("\n10921 7 10\nbad 65532 1\nend 3 2 2\n"));
+    assert!(text.ends_with("\n10921 7 10 255\nbad 65532 1\nend 3 2 2\n"));
 
     // Records of 8 bytes end exactly there.
     let requests = list(&vec![(7, &[1][..]); 8_193]);
     let text = play(&bytes(KEY_SCHEME), &bytes(KEY_MATRIX), &requests);
-    assert!(text.ends_with("\n8191 7 10\nend 3 2 2\n"));
+    assert!(text.ends_with("\n8191 7 10 255\nend 3 2 2\n"));
 
     // What stands behind them is no input, so it isn't even leftover.
     let mut scheme = bytes(KEY_SCHEME);

@@ -2,15 +2,20 @@
 
 mod common;
 
-use common::key_scheme;
-use independent::engine::{carry_out, Dense};
+use common::{carries_out, key_scheme};
 use independent::matrix::Matrix;
 use independent::scheme::{read_scheme, write_scheme, Command, Operation, Scheme, Test};
 
 const OWN: u8 = 0;
 
-/// The key example's types and rights with one command, and a manager 1, keys 2 and 3, a robot 4.
-fn gives(parameters: &[u8], tests: &[Test], operations: &[Operation], ids: &[u16]) -> (u8, Matrix) {
+/// The key example's types and rights with one command, and a manager 1, keys 2 and 3, a robot 4: the number and the test's place, and the matrix
+/// afterwards.
+fn gives(
+    parameters: &[u8],
+    tests: &[Test],
+    operations: &[Operation],
+    ids: &[u16],
+) -> ((u8, u8), Matrix) {
     let command = Command {
         parameters: parameters.to_vec(),
         tests: tests.to_vec(),
@@ -25,13 +30,8 @@ fn gives(parameters: &[u8], tests: &[Test], operations: &[Operation], ids: &[u16
     for (id, kind) in [(1, 0), (2, 1), (3, 1), (4, 2)] {
         matrix.create(&scheme, id, kind);
     }
-    let before = matrix.clone();
-    let mut dense = Dense::from_matrix(&matrix);
-    let number = carry_out(&scheme, &mut matrix, 0, ids);
-    assert_eq!(dense.carry_out(&scheme, 0, ids), number);
-    assert_eq!(dense.to_matrix(&scheme), matrix);
-    assert!(number == 0 || matrix == before);
-    (number, matrix)
+    let answer = carries_out(&scheme, &mut matrix, 0, ids);
+    (answer, matrix)
 }
 
 fn create(parameter: u8) -> Operation {
@@ -53,11 +53,11 @@ fn enter(row: u8, column: u8) -> Operation {
 #[test]
 fn places_from_the_first() {
     let operations = [enter(0, 0)];
-    assert_eq!(gives(&[0, 1], &[], &operations, &[2, 0]).0, 13);
-    assert_eq!(gives(&[0, 1], &[], &operations, &[0, 1]).0, 12);
-    assert_eq!(gives(&[0, 1], &[], &operations, &[99, 1]).0, 12);
-    assert_eq!(gives(&[0, 1], &[], &operations, &[1, 4]).0, 13);
-    assert_eq!(gives(&[0, 1], &[], &operations, &[1, 2]).0, 0);
+    assert_eq!(gives(&[0, 1], &[], &operations, &[2, 0]).0, (13, 255));
+    assert_eq!(gives(&[0, 1], &[], &operations, &[0, 1]).0, (12, 255));
+    assert_eq!(gives(&[0, 1], &[], &operations, &[99, 1]).0, (12, 255));
+    assert_eq!(gives(&[0, 1], &[], &operations, &[1, 4]).0, (13, 255));
+    assert_eq!(gives(&[0, 1], &[], &operations, &[1, 2]).0, (0, 255));
 }
 
 #[test]
@@ -72,12 +72,24 @@ fn new_parameters_are_checked_for_0_only_and_after_the_tests() {
         present: true,
         ..absent
     };
-    assert_eq!(gives(&[0, 1], &[present], &[create(1)], &[1, 0]).0, 12);
-    assert_eq!(gives(&[0, 1], &[present], &[create(1)], &[1, 2]).0, 14);
-    assert_eq!(gives(&[0, 1], &[absent], &[create(1)], &[1, 2]).0, 15);
-    assert_eq!(gives(&[0, 1], &[absent], &[create(1)], &[1, 4]).0, 15);
-    assert_eq!(gives(&[0, 1], &[absent], &[create(1)], &[1, 5]).0, 0);
-    assert_eq!(gives(&[1, 1], &[], &[create(0), create(1)], &[5, 5]).0, 15);
+    assert_eq!(
+        gives(&[0, 1], &[present], &[create(1)], &[1, 0]).0,
+        (12, 255)
+    );
+    assert_eq!(gives(&[0, 1], &[present], &[create(1)], &[1, 2]).0, (14, 0));
+    assert_eq!(
+        gives(&[0, 1], &[absent], &[create(1)], &[1, 2]).0,
+        (15, 255)
+    );
+    assert_eq!(
+        gives(&[0, 1], &[absent], &[create(1)], &[1, 4]).0,
+        (15, 255)
+    );
+    assert_eq!(gives(&[0, 1], &[absent], &[create(1)], &[1, 5]).0, (0, 255));
+    assert_eq!(
+        gives(&[1, 1], &[], &[create(0), create(1)], &[5, 5]).0,
+        (15, 255)
+    );
 }
 
 #[test]
@@ -88,16 +100,16 @@ fn tests_see_the_matrix_as_it_stood() {
         row: 0,
         column: 1,
     };
-    let (number, after) = gives(&[1, 1], &[absent, absent], &[enter(0, 1)], &[2, 2]);
-    assert_eq!((number, after.cell(2, 2)), (0, Some(1)));
+    let (answer, after) = gives(&[1, 1], &[absent, absent], &[enter(0, 1)], &[2, 2]);
+    assert_eq!((answer, after.cell(2, 2)), ((0, 255), Some(1)));
 }
 
 #[test]
 fn a_late_refusal_takes_everything_back() {
     let operations = [create(2), enter(0, 2), destroy(0), destroy(1)];
-    assert_eq!(gives(&[1, 1, 0], &[], &operations, &[3, 3, 9]).0, 17);
-    let (number, after) = gives(&[1, 1, 0], &[], &operations, &[3, 2, 9]);
-    assert_eq!(number, 0);
+    assert_eq!(gives(&[1, 1, 0], &[], &operations, &[3, 3, 9]).0, (17, 255));
+    let (answer, after) = gives(&[1, 1, 0], &[], &operations, &[3, 2, 9]);
+    assert_eq!(answer, (0, 255));
     let things: Vec<u16> = after.things().keys().copied().collect();
     assert_eq!(things, [1, 4, 9]);
     assert_eq!(after.entries(), 0);
@@ -106,15 +118,15 @@ fn a_late_refusal_takes_everything_back() {
 #[test]
 fn created_and_destroyed_at_once() {
     let operations = [create(0), enter(0, 0), destroy(0)];
-    let (number, after) = gives(&[0], &[], &operations, &[7]);
-    assert_eq!((number, after.type_of(7)), (0, None));
-    assert_eq!(gives(&[0], &[], &operations, &[1]).0, 15);
+    let (answer, after) = gives(&[0], &[], &operations, &[7]);
+    assert_eq!((answer, after.type_of(7)), ((0, 255), None));
+    assert_eq!(gives(&[0], &[], &operations, &[1]).0, (15, 255));
 }
 
 #[test]
 fn a_robot_has_a_column_and_no_row() {
-    let (number, after) = gives(&[2], &[], &[create(0)], &[7]);
-    assert_eq!(number, 0);
+    let (answer, after) = gives(&[2], &[], &[create(0)], &[7]);
+    assert_eq!(answer, (0, 255));
     assert_eq!(
         (after.cell(7, 7), after.cell(7, 1), after.cell(1, 7)),
         (None, None, Some(0))

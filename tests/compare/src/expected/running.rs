@@ -1,5 +1,6 @@
 //! The list of requests with all the buffers' lengths, then its first requests one by one.
 
+use independent::answer::{list_bytes, Answer};
 use independent::generate::Case;
 use independent::matrix::Matrix;
 use independent::refusal::Found;
@@ -42,18 +43,20 @@ pub fn expect<'a>(
     }
 }
 
-/// Just enough of both, and one less of either.
+/// Just enough of both, one less of either, and one more for the answers: too little for another one, so that it stays as it was.
 fn edge_lengths(count: usize, written: usize) -> Vec<(usize, usize)> {
-    let mut lengths = vec![(count, written), (count, written - 1)];
+    let bytes = Answer::BYTES * count;
+    let mut lengths = vec![(bytes, written), (bytes, written - 1)];
     if count > 0 {
-        lengths.push((count - 1, written));
+        lengths.push((bytes - 1, written));
     }
+    lengths.push((bytes + 1, written));
     lengths
 }
 
 fn run_list(answers: usize, out: usize, carried: &Carried) -> Told {
     let call = Call::RunList { answers, out };
-    if answers < carried.answers.len() {
+    if answers < Answer::BYTES * carried.answers.len() {
         not_run(Refused::too_short(ANSWERS), call)
     } else if out < carried.bytes.len() {
         not_run(Refused::too_short(OUTPUT), call)
@@ -78,13 +81,13 @@ fn not_run(refused: Refused, call: Call) -> Told {
 }
 
 /// A list that was carried out, to its end or to a record that can't be read: the call's own number is 0 either way.
-pub fn ran(call: Call, answers: &[u8], bytes: &[u8], ending: Option<Found>) -> Told {
+pub fn ran(call: Call, answers: &[Answer], bytes: &[u8], ending: Option<Found>) -> Told {
     let (place, at, record) = match ending {
         Some(found) => (REQUESTS, found.at, usize::from(found.fault.number())),
         None => (0, 0, 0),
     };
     let report = report([place, at, answers.len(), bytes.len(), record], WHOLE);
     Told::new(call, 0, report)
-        .answers(stored(0, answers))
+        .answers(stored(0, &list_bytes(answers)))
         .out(stored(0, bytes))
 }

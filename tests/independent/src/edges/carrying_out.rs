@@ -1,14 +1,15 @@
-//! Requests and lists of them: 10 to 17 at their edges, a matrix that is full, seats that are taken again, and 9 and bad records of a list.
+//! Requests and lists of them: 10 to 17 at their edges, which test stops a request, a matrix that is full, seats that are taken again, and 9 and bad
+//! records of a list.
 
 use super::examples::{changed, key_matrix, key_scheme, KEY_MATRIX, LOAD, RETIRE};
 use super::tasks::Ask;
 use super::{case, Case, Task};
 use crate::matrix::{write_matrix, Matrix};
 use crate::request::write_request;
-use crate::scheme::{write_scheme, Command, Operation, Scheme};
+use crate::scheme::{write_scheme, Command, Operation, Scheme, Test, MOST_TESTS};
 
 pub fn cases() -> Vec<Case> {
-    [key_example(), creates(), destroys(), lists()].concat()
+    [key_example(), stops(), creates(), destroys(), lists()].concat()
 }
 
 fn ask(label: &str, command: u8, ids: &[u16]) -> Case {
@@ -55,6 +56,12 @@ fn key_example() -> Vec<Case> {
         ),
         ask("retire-not-owned", RETIRE, &[5, 9]),
         ask("load-not-signed", LOAD, &[9, 12]),
+        // Of its two cells that of key 9 and robot 12 becomes that of key 9 alone, which is retired.
+        case(
+            "only-retired-to-ask",
+            Task::ReadMatrix(changed(&KEY_MATRIX, &[(49, 9), (51, 4)], 59)),
+        ),
+        ask("load-not-signed-and-retired", LOAD, &[9, 12]),
         case(
             "destroyer-of-two-keys",
             Task::ReadScheme(write_scheme(&destroyer())),
@@ -80,6 +87,71 @@ fn destroyer() -> Scheme {
         subjects: 0b011,
         commands: vec![command],
     }
+}
+
+/// A command of 16 tests on one cell, and whether it is stopped; then the same as a robot has it.
+fn stops() -> Vec<Case> {
+    let scheme = sixteen_tests();
+    let flips = [
+        ("no-test-false", 0),
+        ("first-test-false", 1 << 0),
+        ("last-test-false", 1 << 15),
+        ("first-and-last-test-false", 1 << 0 | 1 << 15),
+        ("tests-8-and-9-false", 1 << 8 | 1 << 9),
+        ("tests-7-to-15-false", 0xFF80),
+        ("all-tests-false", 0xFFFF),
+    ];
+    let mut cases = Vec::new();
+    for (label, flips) in flips {
+        let named = |end: &str| format!("{label}-{end}");
+        cases.extend([
+            case(named("scheme"), Task::ReadScheme(write_scheme(&scheme))),
+            case(named("matrix"), Task::ReadMatrix(one_cell(&scheme, flips))),
+            ask(label, 0, &[7]),
+            case(
+                named("matrix-again"),
+                Task::ReadMatrix(one_cell(&scheme, flips)),
+            ),
+            case(named("robot-cells"), Task::ConvertedCells),
+            case(named("robot-scheme"), Task::ConvertedScheme),
+            ask(&named("robot"), 0, &[7]),
+        ]);
+    }
+    cases
+}
+
+/// In a cell with just these rights all sixteen tests hold.
+const ALL_HOLD: u64 = 0x5555;
+
+/// Each right below 16 is tested, every other one for absence; right 16 is entered.
+fn sixteen_tests() -> Scheme {
+    let (row, column) = (0, 0);
+    let test = |right: u8| Test {
+        present: ALL_HOLD >> right & 1 == 1,
+        right,
+        row,
+        column,
+    };
+    let right = MOST_TESTS;
+    let command = Command {
+        parameters: vec![0],
+        tests: (0..MOST_TESTS).map(test).collect(),
+        operations: vec![Operation::Enter { right, row, column }],
+    };
+    Scheme {
+        rights: 17,
+        types: 1,
+        subjects: 1,
+        commands: vec![command],
+    }
+}
+
+/// Thing 7 alone: the tests of the flipped rights are false, and no others.
+fn one_cell(scheme: &Scheme, flips: u64) -> Vec<u8> {
+    let mut matrix = Matrix::new();
+    matrix.create(scheme, 7, 0);
+    matrix.set_cell(7, 7, ALL_HOLD ^ flips);
+    write_matrix(&matrix, scheme)
 }
 
 /// Types 0, a subject, and 1; command 0 creates one thing, 1 two, 2 destroys two, 3 creates one, enters, and destroys another.
@@ -163,7 +235,8 @@ fn destroys() -> Vec<Case> {
     ]
 }
 
-/// Lists that end, and lists that end with a record that can't be read, with just enough room for the answers, with more and with less.
+/// Lists that end, and lists that end with a record that can't be read, with just enough room for the answers, two bytes each, with more and with
+/// less; an odd byte is no room.
 fn lists() -> Vec<Case> {
     let three = requests(&[(LOAD, &[9, 12]), (RETIRE, &[5, 9]), (LOAD, &[9, 12])]);
     let behind = |bytes: &[u8]| [&three[..20], bytes].concat();
@@ -174,21 +247,24 @@ fn lists() -> Vec<Case> {
         (RETIRE, &[9, 9]),
         (LOAD, &[9, 12]),
         (RETIRE, &[5, 9]),
+        (LOAD, &[9, 12]),
     ]);
     let lists = [
         run("list-empty", &[], 0),
-        run("list-empty-room-3", &[], 3),
-        run("list-short", &three, 2),
-        run("list-of-three", &three, 3),
+        run("list-empty-room-1", &[], 1),
+        run("list-of-three-room-3", &three, 3),
+        run("list-of-three-room-4", &three, 4),
         run("list-of-three-room-5", &three, 5),
-        run("list-bad-short", &behind(&[0]), 1),
-        run("list-bad-front", &behind(&[6, 0, 6]), 2),
-        run("list-bad-kind", &behind(&[2, 0, 5, 0, 0, 0]), 2),
-        run("list-bad-leftover", &behind(&[3, 0, 6, 0, 0, 0, 0]), 4),
-        run("list-bad-nine-ids", &behind(&[2, 0, 6, 0, 0, 9]), 2),
-        run("list-bad-body", &behind(&[3, 0, 6, 0, 0, 0]), 2),
+        run("list-of-three", &three, 6),
+        run("list-of-three-room-7", &three, 7),
+        run("list-bad-short", &behind(&[0]), 3),
+        run("list-bad-front", &behind(&[6, 0, 6]), 4),
+        run("list-bad-kind", &behind(&[2, 0, 5, 0, 0, 0]), 4),
+        run("list-bad-leftover", &behind(&[3, 0, 6, 0, 0, 0, 0]), 5),
+        run("list-bad-nine-ids", &behind(&[2, 0, 6, 0, 0, 9]), 4),
+        run("list-bad-body", &behind(&[3, 0, 6, 0, 0, 0]), 4),
         run("list-bad-first", &[1, 2, 3], 0),
-        run("list-all-refusals", &refusals, 6),
+        run("list-all-refusals", &refusals, 14),
     ];
     let mut cases = vec![key_scheme("key-scheme-of-lists")];
     cases.extend(lists.concat());

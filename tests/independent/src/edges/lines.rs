@@ -9,6 +9,7 @@ use super::sums;
 use super::tasks::{Ask, Task};
 use super::values::{CommandValue, SchemeValue};
 use super::Case;
+use crate::answer::{list_bytes, Answer};
 use crate::convert::{convert_matrix, convert_scheme};
 use crate::engine::carry_out;
 use crate::matrix::{read_matrix, write_matrix, Matrix};
@@ -123,8 +124,9 @@ impl State {
         let said = Said::default();
         match task {
             Task::Request(ask) => {
-                let number = self.request(ask, lent).unwrap_or_else(|number| number);
-                said.gave("engine::request", number)
+                let answer = self.request(ask, lent).unwrap_or_else(Answer::plain);
+                said.gave("engine::request", answer.number)
+                    .word(answer.test)
             }
             Task::List { list, room } => self.list(list, *room, lent),
             Task::ListQuietly(list) => match self.matrix(self.scheme(), lent) {
@@ -266,30 +268,31 @@ impl State {
         self::spots(said, "plan::plan_all", planned, parameter)
     }
 
-    fn request(&mut self, ask: &Ask, lent: usize) -> Result<u8, u8> {
+    /// The answer, or 27.
+    fn request(&mut self, ask: &Ask, lent: usize) -> Result<Answer, u8> {
         let scheme = self.scheme()?;
         let mut matrix = self.matrix(Ok(scheme.clone()), lent)?;
-        let number = carry_out(&scheme, &mut matrix, ask.command.into(), &ask.ids);
-        if number == 0 {
+        let answer = carry_out(&scheme, &mut matrix, ask.command.into(), &ask.ids);
+        if answer.number == 0 {
             let command = &scheme.commands[usize::from(ask.command)];
             self.seats.step(&command.operations, &ask.ids, &matrix);
         }
-        Ok(number)
+        Ok(answer)
     }
 
-    /// The number, how many requests were answered and the position of a record that can't be read; then the sum of the answers.
+    /// The number, how many requests were answered and the position of a record that can't be read; then the sum of the answers' buffer.
     fn list(&mut self, list: &[u8], room: u64, lent: usize) -> Said {
         let function = "engine::run_list";
         let said = Said::default();
         let mut out = sums::pattern(room);
-        let count = requests(list).0.len();
-        let short = (out.len() < count).then_some(9);
+        let room_needed = Answer::BYTES * requests(list).0.len();
+        let short = (out.len() < room_needed).then_some(9);
         let refused = self.matrix(self.scheme(), lent).err().or(short);
         let said = match refused {
             Some(number) => run_answer(said, function, number),
             None => {
                 let ran = self.run(list);
-                out[..count].copy_from_slice(&ran.0);
+                out[..room_needed].copy_from_slice(&list_bytes(&ran.0));
                 ended(said, function, ran)
             }
         };
@@ -297,14 +300,14 @@ impl State {
     }
 
     /// The answers to a list, on a scheme and a matrix that are none of strangers, and how it ended.
-    fn run(&mut self, list: &[u8]) -> (Vec<u8>, Option<Refusal>) {
+    fn run(&mut self, list: &[u8]) -> (Vec<Answer>, Option<Refusal>) {
         let (requests, end) = requests(list);
         let mut answer = |ask| self.request(ask, CELLS).expect("the matrix stays one");
         (requests.iter().map(&mut answer).collect(), end)
     }
 }
 
-fn ended(said: Said, function: &'static str, ran: (Vec<u8>, Option<Refusal>)) -> Said {
+fn ended(said: Said, function: &'static str, ran: (Vec<Answer>, Option<Refusal>)) -> Said {
     let (answers, end) = ran;
     let number = end.map_or(0, |refusal| refusal.number);
     let said = run_answer(said, function, number).word(answers.len());

@@ -1,5 +1,6 @@
 //! A second engine, fast and in place, for benchmarks; it has the same answers as the literal one.
 
+use crate::answer::Answer;
 use crate::matrix::{Matrix, MOST_THINGS};
 use crate::scheme::{Command, Operation, Scheme};
 
@@ -51,10 +52,28 @@ impl Dense {
     }
 
     /// 0 and the changed matrix, or 10 to 17 and no effect at all.
-    pub fn carry_out(&mut self, scheme: &Scheme, command: usize, ids: &[u16]) -> u8 {
+    pub fn carry_out(&mut self, scheme: &Scheme, command: usize, ids: &[u16]) -> Answer {
         let Some(command) = scheme.commands.get(command) else {
-            return 10;
+            return Answer::plain(10);
         };
+        let mut seats = [0; 8];
+        let refused = self.locate(command, ids, &mut seats);
+        if refused != 0 {
+            return Answer::plain(refused);
+        }
+        if let Some(place) = self.first_false(command, &seats) {
+            return Answer::stopped_by(place);
+        }
+        let refused = self.refused(command, ids);
+        if refused == 0 {
+            self.change(command, ids, &mut seats);
+        }
+        Answer::plain(refused)
+    }
+
+    /// 11 to 13; or 0 and the seats of the parameters that aren't new.
+    #[inline]
+    fn locate(&self, command: &Command, ids: &[u16], seats: &mut [usize; 8]) -> u8 {
         if ids.len() != command.parameters.len() || ids.len() > 8 {
             return 11;
         }
@@ -67,7 +86,6 @@ impl Dense {
             new |= 1 << parameter;
         }
 
-        let mut seats = [0usize; 8];
         for (parameter, (&id, &kind)) in ids.iter().zip(&command.parameters).enumerate() {
             if id == 0 {
                 return 12;
@@ -82,22 +100,17 @@ impl Dense {
                 seats[parameter] = seat;
             }
         }
+        0
+    }
 
-        for test in &command.tests {
-            let set = self.cells[place(
-                seats[test.row as usize & 7],
-                seats[test.column as usize & 7],
-            )];
-            if (set >> test.right & 1 == 1) != test.present {
-                return 14;
-            }
-        }
-
-        let refused = self.refused(command, ids);
-        if refused == 0 {
-            self.change(command, ids, &mut seats);
-        }
-        refused
+    /// The place of the first test that doesn't hold.
+    #[inline]
+    fn first_false(&self, command: &Command, seats: &[usize; 8]) -> Option<usize> {
+        command.tests.iter().position(|test| {
+            let (row, column) = (test.row as usize & 7, test.column as usize & 7);
+            let set = self.cells[place(seats[row], seats[column])];
+            (set >> test.right & 1 == 1) != test.present
+        })
     }
 
     /// 15 to 17 before anything changes: only creates and destroys can refuse, and ids tell things apart.

@@ -1,6 +1,7 @@
-//! What the tests share: the outline's key example, and bytes written as text.
+//! What the tests share: the outline's key example, bytes written as text, and requests for both engines.
 #![allow(dead_code)]
 
+use independent::engine::{carry_out, Dense};
 use independent::matrix::{read_matrix, Matrix};
 use independent::request::write_request;
 use independent::scheme::{read_scheme, Scheme};
@@ -42,4 +43,15 @@ pub fn list(requests: &[(u8, &[u16])]) -> Vec<u8> {
         .iter()
         .flat_map(|(command, ids)| write_request(*command, ids).unwrap())
         .collect()
+}
+
+/// The number and the test's place: both engines must answer this, and have the same matrix after it.
+pub fn carries_out(scheme: &Scheme, matrix: &mut Matrix, command: usize, ids: &[u16]) -> (u8, u8) {
+    let mut dense = Dense::from_matrix(matrix);
+    let before = matrix.clone();
+    let answer = carry_out(scheme, matrix, command, ids);
+    assert_eq!(answer, dense.carry_out(scheme, command, ids));
+    assert_eq!(*matrix, dense.to_matrix(scheme));
+    assert!(answer.number == 0 || *matrix == before);
+    (answer.number, answer.test)
 }

@@ -15,6 +15,12 @@ mul-i c = search needs
 shared-slice-read-number : tie.Need-shared-slice-read-number
 shared-slice-read-number c = search needs
 
+add-test : tie.Need-add-test
+add-test c = search needs
+
+shared-slice-read-test : tie.Need-shared-slice-read-test
+shared-slice-read-test c = search needs
+
 put-request-requires : tie.Need-put-request-requires
 put-request-requires c κs = search needs
 
@@ -23,7 +29,7 @@ same-length c = search needs
 
 returns : tie.Need-returns
 returns c =
-    let a = c .before .before .before .before .before .before .before .before .args in
+    let a = c .before .before .before .before .before .before .before .before .before .args in
     c .before .before .put-request .ensures ∙ ap (putText _ _) (has-line (a .n) _ (a .replies .now) (omega arith) _ refl)
 
 returns-2 : tie.Need-returns-2
@@ -34,4 +40,4 @@ returns-2 c =
 pub put-answer-spec : {M : Type 1} → statement M
 put-answer-spec =
     tie.close
-    (tie.spec mul-i shared-slice-read-number put-request-requires same-length returns returns-2)
+    (tie.spec mul-i shared-slice-read-number add-test shared-slice-read-test put-request-requires same-length returns returns-2)
