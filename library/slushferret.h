@@ -107,7 +107,7 @@ enum {
     SLUSHFERRET_REQUEST_BYTES = 22
 };
 
-/* An answer to a request: its bytes in the lent buffer, and the place of each. */
+/* An answer to a request in the lent buffer: which of its bytes says what. */
 enum {
     SLUSHFERRET_NUMBER = 0,       /* the number: 0, or 10 to 17 */
     SLUSHFERRET_TEST_PLACE = 1,   /* with 14 the place, from 0, of the command's first test that doesn't hold; else 255 */
@@ -138,7 +138,8 @@ uint8_t slushferret_check_matrix(const uint8_t *scheme, size_t scheme_length,
  * number is 0, and the report has SLUSHFERRET_IN_REQUESTS, the record's position and, as report[SLUSHFERRET_RECORD], its
  * own number (1 to 4). That slot is 0 for a list that came to its end.
  * An out of SLUSHFERRET_MATRIX_BYTES or more is the quickest: with a shorter one the list is run twice, since the room
- * must be known before the first store. A list of n bytes has at most n / 6 requests.
+ * must be known before the first store. A list of n bytes has at most n / 6 requests, so that n / 3 bytes are room for its
+ * answers.
  * On what the two conversions below write, the answers are the same as on what they were given, the tests' places too. */
 uint8_t slushferret_run(const uint8_t *scheme, size_t scheme_length,
                         const uint8_t *matrix, size_t matrix_length,
