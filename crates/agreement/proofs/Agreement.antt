@@ -105,9 +105,15 @@ module _ (s : Scheme) (m : Matrix) (ok : T (acceptedScheme s)) (of : T (accepted
     as-many : length vs ≡ replyWidth * length (asked bytes)
     as-many = replies-length (answers papers s (standsFor m) (asked bytes)) ∙ ap (λ (n : ℕ). replyWidth * n) (answers-length papers s (standsFor m) (asked bytes))
 
+    in-full : runOn s m bytes out ≡ ranIf s m bytes out true
+    in-full = ran ∙ ap (ranIf s m bytes out) (is-true (room bytes out) t)
+
+    pub ended-so : runOn s m bytes out .ran .answer ≡ runAnswer (length (asked bytes)) (readList bytes .ending)
+    ended-so = ap (λ (r : Result). r .ran .answer) in-full
+
     pub replied : runOn s m bytes out .replies ≡ vs ++ drop (0 + length vs) out
     unfolding placed
-    replied = ap (λ (r : Result). r .replies) ran ∙ rw (is-true (room bytes out) t, on-paper-replies)
+    replied = ap (λ (r : Result). r .replies) in-full ∙ rw on-paper-replies
 
     replies-first : take (replyWidth * length (asked bytes)) (runOn s m bytes out .replies) ≡ vs
     replies-first = rw (replied, ← as-many) (take-append-seam vs (drop (0 + length vs) out))
@@ -130,13 +136,11 @@ module _ (s : Scheme) (m : Matrix) (ok : T (acceptedScheme s)) (of : T (accepted
 
   carried-out : answers papers s (standsFor m) ps ≡ map (λ q. none) ps → CarriedOut ps (runOn s m (listBytes ps) out)
   carried-out does =
-      let in-full : runOn s m (listBytes ps) out ≡ ranIf s m (listBytes ps) out true =
-      ran s m ok of (listBytes ps) out ∙ ap (ranIf s m (listBytes ps) out) (is-true (room (listBytes ps) out) has-room) in
       let first : take (replyWidth * length ps) (runOn s m (listBytes ps) out .replies) ≡ replies (answers papers s (standsFor m) ps) =
       subst (λ (qs : List Request). take (replyWidth * length qs) (runOn s m (listBytes ps) out .replies) ≡ replies (answers papers s (standsFor m) qs))
       same-list (replies-first s m ok of (listBytes ps) out has-room) in
       record {
-        ended = ap (λ (r : Result). r .ran .answer) in-full ∙ ap (λ (l : Listed). runAnswer (length (l .requests)) (l .ending)) reads;
+        ended = ended-so s m ok of (listBytes ps) out has-room ∙ ap (λ (l : Listed). runAnswer (length (l .requests)) (l .ending)) reads;
         replied = first ∙ ap replies does ∙ replies-none ps;
       }
 

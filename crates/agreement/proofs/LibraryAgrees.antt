@@ -2,7 +2,7 @@
 -- a run of what its own bytes are (`LibraryRuns`).
 -- Assumes nothing.
 use Prim.Native.Nat.{ℕ, _*_, _≤_}
-use mathlib.Core.Path.{_≡_, refl, sym, _∙_}
+use mathlib.Core.Path.{_≡_, sym, _∙_}
 use mathlib.Core.List.{List}
 use lib.Dec.{T}
 use lib.ListN.{length, length-replicate}
@@ -14,16 +14,14 @@ use Rattle.model.specs.Accepted.{acceptedMatrix}
 use Rattle.model.specs.declared.Scheme.{Scheme}
 use Rattle.conversion.specs.Conversion.{convertScheme}
 use Rattle.conversion.specs.Demand3.{Within}
-use Rattle.matrix_bytes.proofs.ReadMatrix.{by-head}
 use Rattle.request_list.specs.List.{listBytes}
 use Rattle.engine.specs.List.{runOn}
 use Rattle.robot.specs.Library.{runBytes}
-use Rattle.robot.proofs.RunLaws.{read-accepted}
 use Rattle.agreement.specs.LibraryAgrees.{Bytes, HasRoom, IsScheme, IsMatrix, Alike, Stricter, LibraryAgrees}
 use Rattle.agreement.specs.Agreement.{obeyedBy}
 use Rattle.agreement.proofs.Agreement.{asked, robotOf, new-ok, robot-ok, same-ending, same-answers, mirrored, incomplete, Converted}
 use Rattle.agreement.proofs.LibraryCalls.{empty, both-done}
-use Rattle.agreement.proofs.LibraryRuns.{Held, call-runs, had-room, same-told, all-done}
+use Rattle.agreement.proofs.LibraryRuns.{Held, matrix-held, call-runs, had-room, same-told, all-done}
 
 module _ (s : Scheme) (m : Matrix) (scheme matrix robotScheme robotMatrix : List ℕ) (isScheme : IsScheme scheme s) (isMatrix : IsMatrix matrix s m)
     (c : Converted s m robotScheme robotMatrix) where
@@ -63,7 +61,7 @@ module _ (s : Scheme) (m : Matrix) (scheme matrix robotScheme robotMatrix : List
       (within : Within (standsFor p) (standsFor (robotOf s m))) (low : Bytes requests)
       (e : runBytes robotScheme poor requests answers out .called .number ≡ 0) where
     poor-ok : T (acceptedMatrix (new .head) p)
-    poor-ok = read-accepted poor new (robot .ok) noThings empty (p .cells) _ _ small (sym isPoor ∙ by-head poor new noThings empty (robot .ok)) refl
+    poor-ok = matrix-held poor small new (robot .ok) p isPoor
 
     held : Held robotScheme poor new p
     held = record { ok = robot .ok; of = poor-ok; isScheme = robot .isScheme; isMatrix = isPoor }

@@ -25,7 +25,7 @@ use Rattle.matrix_bytes.specs.FunctionTrips.{reseated}
 use Rattle.matrix_bytes.proofs.ReadMatrix.{by-head}
 use Rattle.matrix_bytes.proofs.RoundTrips.{round-trips}
 use Rattle.request_list.specs.List.{Listed, readList}
-use Rattle.engine.specs.List.{Result, repliesTo, runOn}
+use Rattle.engine.specs.List.{Result, runAnswer, repliesTo, runOn}
 use Rattle.engine.specs.declared.answers.RunAnswer.{RunAnswer}
 use Rattle.engine.specs.declared.answers.RunAnswer.the-variants as ended
 use Rattle.robot.specs.Library.{Called, Ran, bytesAfter, endedBy, notRun, runMatrix, runAgainst, runBytes}
@@ -48,6 +48,10 @@ pub record AsRun (s : Scheme) (c : Ran) (r : Result) : Type 0 where
 written-ended : (count size : ℕ) (e : Reading) → written (endedBy count size e) ≡ size
 written-ended count size (reading.Done next) = refl
 written-ended count size (reading.Refused k at) = refl
+
+stored-ended : (count size : ℕ) (e : Reading) → stored (endedBy count size e) ≡ count
+stored-ended count size (reading.Done next) = refl
+stored-ended count size (reading.Refused k at) = refl
 
 module _ (s : Scheme) (m : Matrix) (ok : T (acceptedScheme s)) (of : T (acceptedMatrix (s .head) m)) (requests results out : List ℕ) where
   abbrev list : Listed
@@ -98,6 +102,14 @@ module _ (s : Scheme) (m : Matrix) (ok : T (acceptedScheme s)) (of : T (accepted
     unfolding runMatrix
     as-run = rw (ran s m ok of requests results, le-leb _ _ inside) (as-run-if (room requests results))
 
+-- ---- what bytes are is accepted
+module _ (bytes : List ℕ) (small : Bytes bytes) (s : Scheme) where
+  pub scheme-held : IsScheme bytes s → T (acceptedScheme s)
+  scheme-held is = scheme-accepted bytes small _ (sym is) _ refl
+
+  pub matrix-held : T (acceptedScheme s) → (m : Matrix) → IsMatrix bytes s m → T (acceptedMatrix (s .head) m)
+  matrix-held ok m is = read-accepted bytes s ok noThings empty (m .cells) _ _ small (sym is ∙ by-head bytes s noThings empty ok) refl
+
 -- ---- the call, on bytes of a scheme and of a matrix of it that are accepted
 pub record Held (scheme matrix : List ℕ) (s : Scheme) (m : Matrix) : Type 0 where
   pub ok : T (acceptedScheme s)
@@ -138,9 +150,12 @@ call-held scheme matrix requests results out small small′ e =
     let (s, is) = scheme-done (notRun results out) (λ r. r .called .number) (λ k x at. refl) scheme small _ e in
     let against = with-scheme (notRun results out) scheme s (λ s n. runAgainst matrix requests results out s) is in
     let (m, is′) = matrix-done (notRun results out) (λ r. r .called .number) (λ k x at. refl) matrix small′ s _ (rw against at e) in
-    let ok = scheme-accepted scheme small _ (sym is) _ refl in
-    let of = read-accepted matrix s ok noThings empty (m .cells) _ _ small′ (sym is′ ∙ by-head matrix s noThings empty ok) refl in
-    (s, m, record { ok = ok; of = of; isScheme = is; isMatrix = is′ })
+    let ok = scheme-held scheme small s is in
+    (s, m, record { ok = ok; of = matrix-held matrix small′ s ok m is′; isScheme = is; isMatrix = is′ })
+
+-- ---- a call tells how many requests its run answered
+pub count-told : {s : Scheme} {c : Ran} {r : Result} → AsRun s c r → (n : ℕ) (e : Reading) → r .ran .answer ≡ runAnswer n e → stored (c .called) ≡ n
+count-told a n e is = ap stored (a .called ∙ ap (endingBy (a .size)) is ∙ ended-told n (a .size) e) ∙ stored-ended n (a .size) e
 
 -- ---- two calls whose runs ended alike tell the same but for the bytes written
 alike : (x y : ℕ) (a : RunAnswer) → (endingBy x a .number ≡ endingBy y a .number) × (besidesWritten (endingBy x a) ≡ besidesWritten (endingBy y a))

@@ -7,6 +7,7 @@ use mathlib.Core.Logic.{_≢_}
 use mathlib.Core.Bool.{Bool, true, false, cond, _&&_}
 use mathlib.Core.List.{List, [], _∷_, _++_, map}
 use lib.Dec.{T, le→leb}
+use lib.ListN.{length}
 use Rattle.laws.proofs.Bools.{and-left, and-right}
 use Rattle.model.specs.Request.{Request, Outcome, done, refused, at, answer, number, after, step, answers}
 use Rattle.model.specs.Answers.{testPlace, replyTo, repliesIn}
@@ -19,15 +20,21 @@ use Rattle.model.specs.declared.Reply.{Reply}
 use Rattle.model.specs.declared.Scheme.{Scheme}
 use Rattle.model.proofs.Joined.{joined}
 use Rattle.model.proofs.FirstTest.{first-test}
+use Rattle.request_list.specs.List.{readList}
 use Rattle.engine.specs.Step.{answered, requestOn}
 use Rattle.engine.specs.List.{runOn}
 use Rattle.engine.specs.declared.answers.RunAnswer.the-variants.{Refused}
 use Rattle.engine.proofs.ListLaws.{replies-stored}
 use Rattle.robot.specs.Library.{runBytes}
-use Rattle.agreement.specs.LibraryAgrees.{Bytes, IsScheme, IsMatrix}
+use Rattle.agreement.specs.LibraryAgrees.{stored, Bytes, IsScheme, IsMatrix}
 use Rattle.agreement.specs.WhichTest.{TellEach, WhichTest}
-use Rattle.agreement.proofs.Agreement.{asked, room, replied}
-use Rattle.agreement.proofs.LibraryRuns.{Held, call-held, had-room}
+use Rattle.agreement.proofs.Agreement.{asked, room, ended-so, replied}
+use Rattle.agreement.proofs.LibraryRuns.{call-held, had-room, count-told}
+
+accepted : (s : Scheme) (m : Matrix) → (acceptedScheme s && acceptedMatrix (s .head) m) ≡ true → T (acceptedScheme s) × T (acceptedMatrix (s .head) m)
+accepted s m e =
+    let both : T (acceptedScheme s && acceptedMatrix (s .head) m) = rw e tt in
+    (and-left (acceptedScheme s) _ both, and-right (acceptedScheme s) _ both)
 
 -- ---- one request
 module _ (s : Scheme) (m : Matrix) (q : Request) where
@@ -54,9 +61,7 @@ request s m command ids = go (acceptedScheme s && acceptedMatrix (s .head) m) re
 
     go : (b : Bool) → (acceptedScheme s && acceptedMatrix (s .head) m) ≡ b →
         TellsTest papers s (standsFor m) q (cond b (answered m (step seats s m q)) (answered m (refused (at 27 0))) .0 .answer)
-    go true e =
-        let both : T (acceptedScheme s && acceptedMatrix (s .head) m) = rw e tt in
-        in-memory s m q (and-left (acceptedScheme s) _ both) (and-right (acceptedScheme s) _ both)
+    go true e = let (ok, of) = accepted s m e in in-memory s m q ok of
     go false e = stranger s m q
 
 -- ---- a list: the replies on paper, then what a run stored
@@ -77,20 +82,21 @@ module _ (s : Scheme) (m : Matrix) (bytes out : List ℕ) where
   list whole = go (acceptedScheme s && acceptedMatrix (s .head) m) refl (room bytes out) refl
     where
       go : (b : Bool) → (acceptedScheme s && acceptedMatrix (s .head) m) ≡ b → (fits : Bool) → room bytes out ≡ fits → Told
-      go true e true f =
-          let both : T (acceptedScheme s && acceptedMatrix (s .head) m) = rw e tt in
-          run-tells (and-left (acceptedScheme s) _ both) (and-right (acceptedScheme s) _ both) (rw f tt)
+      go true e true f = let (ok, of) = accepted s m e in run-tells ok of (rw f tt)
       go true e false f = absurd (whole 9 (unfold runOn in rw (e, f)))
       go false e fits f = absurd (whole 27 (unfold runOn in rw e))
 
 -- ---- a call that gave 0 had room, and is a run
 call : (scheme matrix requests answers out : List ℕ) → Bytes scheme → Bytes matrix → runBytes scheme matrix requests answers out .called .number ≡ 0 →
     (s : Scheme) × (m : Matrix) × IsScheme scheme s × IsMatrix matrix s m
+    × (stored (runBytes scheme matrix requests answers out .called) ≡ length (asked requests))
     × TellEach s (standsFor m) (asked requests) (repliesIn (runBytes scheme matrix requests answers out .answers))
 call scheme matrix requests answers out small small′ e =
     let (s, m, h) = call-held scheme matrix requests answers out small small′ e in
     let (fits, ran) = had-room h requests answers out e in
-    (s, m, h .isScheme, h .isMatrix, rw (ran .answers) (run-tells s m requests answers (h .ok) (h .of) (le→leb _ _ fits)))
+    let room = le→leb _ _ fits in
+    let counted = count-told ran _ (readList requests .ending) (ended-so s m (h .ok) (h .of) requests answers room) in
+    (s, m, h .isScheme, h .isMatrix, counted, rw (ran .answers) (run-tells s m requests answers (h .ok) (h .of) room))
 
 pub which-test : WhichTest
 which-test = record { request = request; list = list; call = call }

@@ -4,6 +4,7 @@ use Prim.Native.Nat.{ℕ}
 use mathlib.Core.Path.{_≡_}
 use mathlib.Core.Logic.{_≢_}
 use mathlib.Core.List.{List, [], _∷_}
+use lib.ListN.{length}
 use Rattle.model.specs.Request.{Request, after, step}
 use Rattle.model.specs.Answers.{repliesIn}
 use Rattle.model.specs.Papers.{State, papers}
@@ -16,7 +17,7 @@ use Rattle.engine.specs.Step.{requestOn}
 use Rattle.engine.specs.List.{runOn}
 use Rattle.engine.specs.declared.answers.RunAnswer.the-variants.{Refused}
 use Rattle.robot.specs.Library.{runBytes}
-use Rattle.agreement.specs.LibraryAgrees.{Bytes, IsScheme, IsMatrix}
+use Rattle.agreement.specs.LibraryAgrees.{stored, Bytes, IsScheme, IsMatrix}
 
 -- the replies to a list: to each request there is one, and it tells of that request, on the matrix as those before it left it
 unfoldable pub TellEach : Scheme → State → List Request → List Reply → Type 0
@@ -31,7 +32,8 @@ pub record WhichTest : Type 0 where
   -- `run_list`, unless the list was refused as a whole: the replies that it stored.
   pub list : (s : Scheme) (m : Matrix) (bytes out : List ℕ) → ((k : ℕ) → runOn s m bytes out .ran .answer ≢ Refused k) →
       TellEach s (standsFor m) (readList bytes .requests) (repliesIn (runOn s m bytes out .replies))
-  -- `slushferret_run` that gave 0: the answers that it stored.
+  -- `slushferret_run` that gave 0: it stored an answer to each request that can be read, as its report says, and these tell.
   pub call : (scheme matrix requests answers out : List ℕ) → Bytes scheme → Bytes matrix → runBytes scheme matrix requests answers out .called .number ≡ 0 →
       (s : Scheme) × (m : Matrix) × IsScheme scheme s × IsMatrix matrix s m
+      × (stored (runBytes scheme matrix requests answers out .called) ≡ length (readList requests .requests))
       × TellEach s (standsFor m) (readList requests .requests) (repliesIn (runBytes scheme matrix requests answers out .answers))
