@@ -1,5 +1,5 @@
 /* The outline's key example through the library: the office loads, retires the key, and can't load again; the converted
- * table gives the robot the same answers. What it prints is example.expected. */
+ * table gives the robot the same answers, in more steps. What it prints is example.expected. */
 #include "slushferret.h"
 #include <stdio.h>
 #include <stdlib.h>
@@ -60,8 +60,8 @@ static void print_cells(const char *whose, const uint8_t *bytes, size_t length) 
     }
 }
 
-/* runs the list and prints each answer, with the test that stopped it, and what ended the list if that isn't its end; the
- * matrix afterwards is in `after` */
+/* runs the list and prints each answer, with its steps and the test that stopped it, and what ended the list if that isn't
+ * its end; the matrix afterwards is in `after` */
 static size_t run(const char *whose, const uint8_t *with, size_t with_length, const uint8_t *on, size_t on_length,
                   const uint8_t *requests, size_t requests_length, uint8_t *after) {
     uint8_t answers[8 * SLUSHFERRET_ANSWER_BYTES];
@@ -70,10 +70,11 @@ static size_t run(const char *whose, const uint8_t *with, size_t with_length, co
     printf("%s answers", whose);
     for (size_t k = 0; k < report[SLUSHFERRET_ANSWERS]; k++) {
         const uint8_t *answer = answers + k * SLUSHFERRET_ANSWER_BYTES;
-        printf(" %d", answer[SLUSHFERRET_NUMBER]);
+        printf(" %d (", answer[SLUSHFERRET_NUMBER]);
         if (answer[SLUSHFERRET_TEST_PLACE] != SLUSHFERRET_NO_TEST) {
-            printf(" (test %d)", answer[SLUSHFERRET_TEST_PLACE]);
+            printf("test %d, ", answer[SLUSHFERRET_TEST_PLACE]);
         }
+        printf("%d steps)", answer[SLUSHFERRET_STEPS]);
     }
     printf("\n");
     if (report[SLUSHFERRET_RECORD] != 0) {

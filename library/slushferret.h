@@ -30,7 +30,7 @@ extern "C" {
 
 /* The version of what stands here: it moves when a format or a function's meaning moves. slushferret_version gives that of
  * the archive; a program that compares the two knows that header and archive belong together. */
-#define SLUSHFERRET_VERSION 3
+#define SLUSHFERRET_VERSION 4
 
 /* the slots of a report */
 enum {
@@ -97,7 +97,8 @@ enum {
     SLUSHFERRET_MOST_PARAMETERS = 8,
     SLUSHFERRET_MOST_TESTS = 16,
     SLUSHFERRET_MOST_OPERATIONS = 32,
-    SLUSHFERRET_MOST_THINGS = 48
+    SLUSHFERRET_MOST_THINGS = 48,
+    SLUSHFERRET_MOST_STEPS = 48 /* no request takes more: tests and operations together */
 };
 
 /* Room for the longest of each: no scheme, matrix or request has more bytes. */
@@ -111,7 +112,8 @@ enum {
 enum {
     SLUSHFERRET_NUMBER = 0,       /* the number: 0, or 10 to 17 */
     SLUSHFERRET_TEST_PLACE = 1,   /* with 14 the place, from 0, of the command's first test that doesn't hold; else 255 */
-    SLUSHFERRET_ANSWER_BYTES = 2, /* so many bytes an answer */
+    SLUSHFERRET_STEPS = 2,        /* how many tests were evaluated and operations carried out or refused */
+    SLUSHFERRET_ANSWER_BYTES = 3, /* so many bytes an answer */
     SLUSHFERRET_NO_TEST = 255     /* the place with every number but 14 */
 };
 
@@ -129,18 +131,21 @@ uint8_t slushferret_check_matrix(const uint8_t *scheme, size_t scheme_length,
                                  size_t *report, size_t report_length);
 
 /* Carries out a list of requests on a matrix. The answer to each goes to answers, SLUSHFERRET_ANSWER_BYTES each: the number
- * (0, or 10 to 17), and with 14 the place, from 0, of the command's first test that doesn't hold, else 255. The bytes of the
- * matrix afterwards go to out; the report says how many answers and how many bytes. A refused request has no effect on the
- * matrix, and the list goes on.
+ * (0, or 10 to 17); with 14 the place, from 0, of the command's first test that doesn't hold, else 255; and the steps. These
+ * are all tests and operations of the command with 0, the tests up to the false one with 14, all tests and the operations
+ * up to the one at fault with 15 to 17 (the one at fault counts too), and 0 with 10 to 13. The bytes of the matrix
+ * afterwards go to out; the report says how many answers and how many bytes. A refused request has no effect on the matrix,
+ * and the list goes on.
  * In this order: the scheme's fault; the matrix's; 9 if answers is too short for all of them; 9 if out is too short for the
  * matrix afterwards. With any of these nothing is stored.
  * A record of the list that can't be read ends the list: what came before it is carried out, answered and written, the
  * number is 0, and the report has SLUSHFERRET_IN_REQUESTS, the record's position and, as report[SLUSHFERRET_RECORD], its
  * own number (1 to 4). That slot is 0 for a list that came to its end.
  * An out of SLUSHFERRET_MATRIX_BYTES or more is the quickest: with a shorter one the list is run twice, since the room
- * must be known before the first store. A list of n bytes has at most n / 6 requests, so that n / 3 bytes are room for its
+ * must be known before the first store. A list of n bytes has at most n / 6 requests, so that n / 2 bytes are room for its
  * answers.
- * On what the two conversions below write, the answers are the same as on what they were given, the tests' places too. */
+ * On what the two conversions below write, the answers are the same as on what they were given, the tests' places too, but
+ * for the steps: those tests, and twice those operations. */
 uint8_t slushferret_run(const uint8_t *scheme, size_t scheme_length,
                         const uint8_t *matrix, size_t matrix_length,
                         const uint8_t *requests, size_t requests_length,

@@ -13,9 +13,9 @@ int memcmp(const void *one, const void *other, size_t length);
 
 enum {
     GUARD = 64,
-    ROOM = 80000,   /* no case has more room */
-    LARGE = 40000,  /* enough for every matrix, and for the answers to every list of a case */
-    STEPS = 60,     /* so many requests of a list are also carried out one by one */
+    ROOM = 80000,    /* no case has more room */
+    LARGE = 40000,   /* enough for every matrix, and for the answers to every list of a case */
+    ONE_BY_ONE = 60, /* so many requests of a list are also carried out one by one */
     REPORT = SLUSHFERRET_REPORT + 2 /* two more numbers than are told stand as a guard */
 };
 
@@ -184,7 +184,7 @@ static int run_list(size_t room, int edges) {
 /* The first requests of the list one by one, each a list of its own on the matrix that the one before left. */
 static void run_steps(void) {
     size_t at = 0;
-    for (size_t k = 0; k < STEPS && at < requests.length; k++) {
+    for (size_t k = 0; k < ONE_BY_ONE && at < requests.length; k++) {
         const uint8_t *front = requests.bytes + at;
         size_t left = requests.length - at;
         size_t length = left < 4 ? left : 4 + (size_t)front[0] + 256 * (size_t)front[1];

@@ -1,29 +1,35 @@
 -- Demand 3 of the functions. A conversion that was done tells that all was accepted; what the robot then reads stands for the converted matrix; and
 -- a run in memory is a run on paper, of which `Demand3` speaks.
 -- Assumes nothing.
-use Prim.Native.Nat.{ℕ, _+_, _*_, _≤_, _<_}
+use Prim.Native.Nat.{ℕ, _*_, _≤_, _<_}
+use native.Mathlib.Nat.{zero-add}
 use mathlib.Core.Path.{_≡_, refl, sym, ap, subst, _∙_}
+use mathlib.Core.Logic.{_≢_}
 use mathlib.Core.Bool.{Bool, true, false, cond, _&&_}
 use mathlib.Core.Option.{none, some}
-use mathlib.Core.List.{List, _++_, map}
+use mathlib.Core.List.{List, [], _∷_, _++_, map}
 use lib.Dec.{T, leb, le→leb}
 use lib.ListN.{length, take, drop, getD}
 use lib.Seq.{take-length, take-append-seam}
 use Rattle.laws.specs.Check.{Fault, passes, Each}
-use Rattle.model.specs.Request.{Request, Answer, run, answers}
-use Rattle.model.specs.Answers.{replyWidth}
-use Rattle.model.specs.Papers.{papers}
+use Rattle.model.specs.Request.{Request, answer, after, step, run, answers}
+use Rattle.model.specs.Answers.{stepsTo, replyOf, replyTo, replyEach, replyWidth, repliesIn}
+use Rattle.model.specs.Papers.{State, papers}
 use Rattle.model.specs.Seats.{Matrix, seats, standsFor}
 use Rattle.model.specs.Accepted.{acceptedScheme, acceptedMatrix}
+use Rattle.model.specs.declared.Reply.{Reply}
 use Rattle.model.specs.declared.Scheme.{Scheme}
 use Rattle.model.specs.declared.Things.{Things}
 use Rattle.laws.proofs.Bools.{is-true, and-left, and-right}
 use Rattle.laws.proofs.Differ.{constructors-differ}
 use Rattle.model.proofs.Joined.{run-joined}
+use Rattle.model.proofs.StepsTaken.{steps-taken}
 use Rattle.conversion.specs.Conversion.{conversionFault, convertible, convertScheme, convertMatrix}
 use Rattle.conversion.specs.Demand3.{Mirrors, Within, obeyed, Safe, Agree as OnPaper}
 use Rattle.conversion.proofs.Converted.{converts}
 use Rattle.conversion.proofs.Demand3.{demand3}
+use Rattle.conversion.proofs.Robot.{still-mirrors}
+use Rattle.conversion.proofs.RobotSteps.{robot-steps as robot-steps-twice}
 use Rattle.records.specs.Writing.{placed}
 use Rattle.records.specs.declared.Reading.the-variants as reading
 use Rattle.records.specs.declared.Writing.{Writing}
@@ -42,11 +48,13 @@ use Rattle.matrix_bytes.proofs.AcceptedTrip.{accepted-iff-read}
 use Rattle.request_list.specs.List.{Listed, readList, listBytes}
 use Rattle.request_list.specs.Write.{Writable}
 use Rattle.request_list.proofs.ListTrips.{list-trips}
-use Rattle.engine.proofs.ListLaws.{answers-length, replies-length}
+use Rattle.engine.proofs.ListLaws.{replies-length, replies-many, replies-stored}
 use Rattle.engine.specs.List.{Result, runAnswer, repliesTo, refusedRun, runOn}
+use Rattle.engine.specs.declared.answers.RunAnswer.the-variants as ended
 use Rattle.convert.specs.Convert.{schemeFault, matrixFault, writtenBy, convertSchemeInto, convertMatrixInto}
-use Rattle.agreement.specs.Agreement.{leftBy, CarriedOut, obeyedBy, FunctionsAgree}
-use Rattle.agreement.proofs.Obeyed.{replies, told, obeyed-each, obeyed-done, replies-none}
+use Rattle.agreement.specs.Replies.{ToEach, obeyedBy, besidesSteps}
+use Rattle.agreement.specs.Agreement.{leftBy, CarriedOut, Doubles, FunctionsAgree}
+use Rattle.agreement.proofs.Obeyed.{replies, same-besides, told, obeyed-each, obeyed-done, replies-none}
 
 -- ---- what a conversion that was done tells: there was no fault, and so many bytes stand in front of the buffer
 no-fault : (may : Bool) (f : Fault) → cond may f (some 27) ≡ none → T may × T (passes f)
@@ -95,15 +103,15 @@ module _ (s : Scheme) (m : Matrix) (ok : T (acceptedScheme s)) (of : T (accepted
   left-so = ap leftBy ran ∙ left-if (room bytes out)
 
   -- where there is room, the replies stand in front
-  on-paper-replies : repliesTo s m (asked bytes) ≡ replies (answers papers s (standsFor m) (asked bytes))
-  on-paper-replies = ap replies (run-joined .sameAnswers s m (asked bytes) ok of)
+  on-paper-replies : repliesTo s m (asked bytes) ≡ replies s (asked bytes) (answers papers s (standsFor m) (asked bytes))
+  on-paper-replies = ap (replies s (asked bytes)) (run-joined .sameAnswers s m (asked bytes) ok of)
 
   module _ (t : T (room bytes out)) where
     abbrev pub vs : List ℕ
-    vs = replies (answers papers s (standsFor m) (asked bytes))
+    vs = replies s (asked bytes) (answers papers s (standsFor m) (asked bytes))
 
     as-many : length vs ≡ replyWidth * length (asked bytes)
-    as-many = replies-length (answers papers s (standsFor m) (asked bytes)) ∙ ap (λ (n : ℕ). replyWidth * n) (answers-length papers s (standsFor m) (asked bytes))
+    as-many = replies-length (replyEach s (asked bytes) _) ∙ ap (λ (n : ℕ). replyWidth * n) (replies-many papers s (standsFor m) (asked bytes))
 
     in-full : runOn s m bytes out ≡ ranIf s m bytes out true
     in-full = ran ∙ ap (ranIf s m bytes out) (is-true (room bytes out) t)
@@ -111,16 +119,24 @@ module _ (s : Scheme) (m : Matrix) (ok : T (acceptedScheme s)) (of : T (accepted
     pub ended-so : runOn s m bytes out .ran .answer ≡ runAnswer (length (asked bytes)) (readList bytes .ending)
     ended-so = ap (λ (r : Result). r .ran .answer) in-full
 
-    pub replied : runOn s m bytes out .replies ≡ vs ++ drop (0 + length vs) out
+    pub replied : runOn s m bytes out .replies ≡ vs ++ drop (replyWidth * length (asked bytes)) out
     unfolding placed
-    replied = ap (λ (r : Result). r .replies) in-full ∙ rw on-paper-replies
+    replied = ap (λ (r : Result). r .replies) in-full ∙ rw (on-paper-replies, zero-add, as-many)
 
     replies-first : take (replyWidth * length (asked bytes)) (runOn s m bytes out .replies) ≡ vs
-    replies-first = rw (replied, ← as-many) (take-append-seam vs (drop (0 + length vs) out))
+    replies-first = rw (replied, ← as-many) (take-append-seam vs (drop (length vs) out))
 
     -- they tell what was carried out before the first refusal
     obeys : obeyedBy (asked bytes) (runOn s m bytes out .replies) ≡ obeyed s (standsFor m) (asked bytes)
-    obeys = rw replied (told s (standsFor m) (asked bytes) (drop (0 + length vs) out))
+    obeys = rw replied (told s (standsFor m) (asked bytes) (drop (replyWidth * length (asked bytes)) out))
+
+  -- one that wasn't refused as a whole had it
+  pub list-room : ((k : ℕ) → runOn s m bytes out .ran .answer ≢ ended.Refused k) → T (room bytes out)
+  list-room whole = go (room bytes out) refl
+    where
+      go : (fits : Bool) → room bytes out ≡ fits → T (room bytes out)
+      go true e = rw e tt
+      go false e = absurd (whole 9 (rw (ran, e)))
 
 -- a run of requests that can be written, each of which is carried out
 module _ (s : Scheme) (m : Matrix) (ok : T (acceptedScheme s)) (of : T (acceptedMatrix (s .head) m)) (ps : List Request) (each : Each Writable ps)
@@ -134,14 +150,14 @@ module _ (s : Scheme) (m : Matrix) (ok : T (acceptedScheme s)) (of : T (accepted
   same-list : asked (listBytes ps) ≡ ps
   same-list = ap (λ (l : Listed). l .requests) reads
 
-  carried-out : answers papers s (standsFor m) ps ≡ map (λ q. none) ps → CarriedOut ps (runOn s m (listBytes ps) out)
+  carried-out : answers papers s (standsFor m) ps ≡ map (λ q. none) ps → CarriedOut s ps (runOn s m (listBytes ps) out)
   carried-out does =
-      let first : take (replyWidth * length ps) (runOn s m (listBytes ps) out .replies) ≡ replies (answers papers s (standsFor m) ps) =
-      subst (λ (qs : List Request). take (replyWidth * length qs) (runOn s m (listBytes ps) out .replies) ≡ replies (answers papers s (standsFor m) qs))
+      let first : take (replyWidth * length ps) (runOn s m (listBytes ps) out .replies) ≡ replies s ps (answers papers s (standsFor m) ps) =
+      subst (λ (qs : List Request). take (replyWidth * length qs) (runOn s m (listBytes ps) out .replies) ≡ replies s qs (answers papers s (standsFor m) qs))
       same-list (replies-first s m ok of (listBytes ps) out has-room) in
       record {
         ended = ended-so s m ok of (listBytes ps) out has-room ∙ ap (λ (l : Listed). runAnswer (length (l .requests)) (l .ending)) reads;
-        replied = first ∙ ap replies does ∙ replies-none ps;
+        replied = first ∙ ap (replies s ps) does ∙ replies-none s ps;
       }
 
   left-after : leftBy (runOn s m (listBytes ps) out) ≡ run papers s (standsFor m) ps
@@ -152,6 +168,30 @@ module _ (s : Scheme) (m : Matrix) (ok : T (acceptedScheme s)) (of : T (accepted
       ∙ ap (λ (qs : List Request). run papers s (standsFor m) qs) (ap (λ (n : ℕ). take n (asked (listBytes ps))) all ∙ take-length (asked (listBytes ps)) ∙ same-list)
 
 -- ---- the office and the robot
+
+-- on paper, wherever they mirror: each reply of the robot reports the office's tests, and twice its operations
+module _ (s : Scheme) (ok : T (acceptedScheme s)) (can : T (convertible s)) where
+  doubles : (office robot : State) → Mirrors (s .head) office robot → (q : Request) →
+      Doubles s office q (replyTo (convertScheme s) q (answer (step papers (convertScheme s) robot q)))
+  unfolding Doubles replyTo replyOf stepsTo
+  doubles office robot m q =
+      let twice = robot-steps-twice s office robot q ok can m in
+      rw (steps-taken papers .counts (convertScheme s) robot q, twice .sameTests, twice .twice)
+
+  -- they still do after the request
+  mirrors-on : (office robot : State) → Mirrors (s .head) office robot → (q : Request) →
+      Mirrors (s .head) (after office (step papers s office q)) (after robot (step papers (convertScheme s) robot q))
+  unfolding run
+  mirrors-on office robot m q = still-mirrors s ok can office robot m (q ∷ []) 1
+
+  doubles-each : (office robot : State) → Mirrors (s .head) office robot → (qs : List Request) (more : List Reply) →
+      ToEach (Doubles s) s office qs (replyEach (convertScheme s) qs (answers papers (convertScheme s) robot qs) ++ more)
+  unfolding ToEach replyEach answers
+  doubles-each office robot m [] more = tt
+  doubles-each office robot m (q ∷ qs) more = (
+    doubles office robot m q,
+    doubles-each _ _ (mirrors-on office robot m q) qs more,
+  )
 
 -- what the robot has read
 abbrev pub robotOf : Scheme → Matrix → Matrix
@@ -190,15 +230,29 @@ module _ (s : Scheme) (m : Matrix) (ok : T (acceptedScheme s)) (of : T (accepted
         go true = refl
         go false = refl
 
-    pub same-answers : runOn new robot bytes out .replies ≡ runOn s m bytes out .replies
-    same-answers = rw (ran new robot new-ok robot-ok bytes out, ran s m ok of bytes out) (go (room bytes out))
-      where
-        same : answers seats new robot (asked bytes) ≡ answers seats s m (asked bytes)
-        same = run-joined .sameAnswers new robot _ new-ok robot-ok ∙ on-paper .sameAnswers ∙ sym (run-joined .sameAnswers s m _ ok of)
+    abbrev Same : Type 0
+    Same = besidesSteps (length (asked bytes)) (runOn new robot bytes out .replies) ≡ besidesSteps (length (asked bytes)) (runOn s m bytes out .replies)
 
-        go : (fits : Bool) → ranIf new robot bytes out fits .replies ≡ ranIf s m bytes out fits .replies
-        go true = ap (λ (list : List Answer). placed out 0 (replies list)) same
-        go false = refl
+    pub same-answers : Same
+    same-answers = go (room bytes out) refl
+      where
+        behind : List ℕ
+        behind = drop (replyWidth * length (asked bytes)) out
+
+        go : (fits : Bool) → room bytes out ≡ fits → Same
+        go true e =
+            rw (replied new robot new-ok robot-ok bytes out (rw e tt), replied s m ok of bytes out (rw e tt), on-paper .sameAnswers)
+            (same-besides s new (asked bytes) (answers papers s (standsFor m) (asked bytes)) behind)
+        go false e = rw (ran new robot new-ok robot-ok bytes out, ran s m ok of bytes out, e)
+
+    -- each reply of the robot, told of the office's matrix
+    pub robot-steps : T (room bytes out) → ToEach (Doubles s) s (standsFor m) (asked bytes) (repliesIn (runOn new robot bytes out .replies))
+    robot-steps fits =
+        rw (replied new robot new-ok robot-ok bytes out fits, replies-stored (replyEach new (asked bytes) _) _)
+        (doubles-each s ok can (standsFor m) (standsFor robot) start (asked bytes) _)
+      where
+        start : Mirrors (s .head) (standsFor m) (standsFor robot)
+        start = unfold run in on-paper .afterEach 0
 
     pub mirrored : Mirrors (s .head) (leftBy (runOn s m bytes out)) (leftBy (runOn new robot bytes out))
     mirrored = rw (left-so s m ok of bytes out, left-so new robot new-ok robot-ok bytes out) (on-paper .afterEach (many bytes out))
@@ -208,8 +262,8 @@ module _ (s : Scheme) (m : Matrix) (ok : T (acceptedScheme s)) (of : T (accepted
         ((i : ℕ) → getD bytes i 0 < 256) → replyWidth * length (asked bytes) ≤ length out →
         let ps = obeyedBy (asked bytes) (runOn new poor bytes out .replies) in
         replyWidth * length ps ≤ length out′ →
-        CarriedOut ps (runOn s m (listBytes ps) out′)
-        × CarriedOut ps (runOn new poor (listBytes ps) out′)
+        CarriedOut s ps (runOn s m (listBytes ps) out′)
+        × CarriedOut new ps (runOn new poor (listBytes ps) out′)
         × Within (leftBy (runOn new poor (listBytes ps) out′)) (leftBy (runOn new robot (listBytes ps) out′))
     incomplete poor out′ p w small fits =
         rw (obeys new poor new-ok p bytes out (le→leb _ _ fits)) (λ fits′.
@@ -263,6 +317,7 @@ functions-agree s m out out′ left left′ written written′ e e′ =
       readsMatrix = c .readsMatrix;
       sameEnding = same-ending s m (c .ok) (c .of) (c .can);
       sameAnswers = same-answers s m (c .ok) (c .of) (c .can);
+      robotSteps = λ bytes out whole. robot-steps s m (c .ok) (c .of) (c .can) bytes out (list-room s m (c .ok) (c .of) bytes out whole);
       mirrored = mirrored s m (c .ok) (c .of) (c .can);
       incomplete = λ poor bytes out out′. incomplete s m (c .ok) (c .of) (c .can) bytes out poor out′;
     }

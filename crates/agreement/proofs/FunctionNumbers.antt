@@ -13,7 +13,7 @@ use lib.ListN.{length}
 use Rattle.laws.specs.Check.{Fault, any, all, between}
 use Rattle.laws.proofs.Bools.{and-left, and-right, and-both}
 use Rattle.model.specs.Request.{Request, Answer, refused, at, number, answer, after, answers, step}
-use Rattle.model.specs.Answers.{replyTo, replyWidth}
+use Rattle.model.specs.Answers.{replyOf, replyTo, replyWidth}
 use Rattle.model.specs.Seats.{Matrix, seats}
 use Rattle.model.specs.Promises.{tellsRequest}
 use Rattle.model.specs.Accepted.{allFrom, acceptedScheme, acceptedMatrix}
@@ -205,13 +205,13 @@ module _ (ok : ℕ → Bool) (none-passes : T (ok 0)) (all-pass : T (allFrom ok 
       and-both (ok (number (answer (step seats s m q)))) _ (of-step _ (request-numbers Matrix seats s m q)) (of-each s (after m (step seats s m q)) qs)
 
   pub of-request-on : T (ok 27) → (s : Scheme) (m : Matrix) (command : ℕ) (ids : List ℕ) → T (ok (requestOn s m command ids .0 .answer .number))
-  unfolding requestOn replyTo answer number
+  unfolding requestOn replyTo replyOf answer number
   of-request-on t s m command ids = by (acceptedScheme s && acceptedMatrix (s .head) m)
     where
       q : Request
       q = record { command = command; ids = ids }
 
-      by : (right : Bool) → T (ok (cond right (answered m (step seats s m q)) (answered m (refused (at 27 0))) .0 .answer .number))
+      by : (right : Bool) → T (ok (cond right (answered s m q (step seats s m q)) (answered s m q (refused (at 27 0))) .0 .answer .number))
       by true = of-step _ (request-numbers Matrix seats s m q)
       by false = t
 

@@ -2,9 +2,9 @@
 -- a run of what its own bytes are (`LibraryRuns`).
 -- Assumes nothing.
 use Prim.Native.Nat.{ℕ, _*_, _≤_}
-use mathlib.Core.Path.{_≡_, sym, _∙_}
+use mathlib.Core.Path.{_≡_, _∙_}
 use mathlib.Core.List.{List}
-use lib.Dec.{T}
+use lib.Dec.{T, le→leb}
 use lib.ListN.{length, length-replicate}
 use Rattle.model.specs.Arrays.{noScheme}
 use Rattle.model.specs.Request.{Request}
@@ -18,8 +18,8 @@ use Rattle.request_list.specs.List.{listBytes}
 use Rattle.engine.specs.List.{runOn}
 use Rattle.robot.specs.Library.{runBytes}
 use Rattle.agreement.specs.LibraryAgrees.{Bytes, HasRoom, IsScheme, IsMatrix, Alike, Stricter, LibraryAgrees}
-use Rattle.agreement.specs.Agreement.{obeyedBy}
-use Rattle.agreement.proofs.Agreement.{asked, robotOf, new-ok, robot-ok, same-ending, same-answers, mirrored, incomplete, Converted}
+use Rattle.agreement.specs.Replies.{obeyedBy}
+use Rattle.agreement.proofs.Agreement.{asked, robotOf, new-ok, robot-ok, same-ending, same-answers, robot-steps, mirrored, incomplete, Converted}
 use Rattle.agreement.proofs.LibraryCalls.{empty, both-done}
 use Rattle.agreement.proofs.LibraryRuns.{Held, matrix-held, call-runs, had-room, same-told, all-done}
 
@@ -41,7 +41,7 @@ module _ (s : Scheme) (m : Matrix) (scheme matrix robotScheme robotMatrix : List
 
   -- a robot with every entry
   complete : (requests answers out out′ : List ℕ) → HasRoom out → HasRoom out′ →
-      Alike s (runBytes scheme matrix requests answers out) (runBytes robotScheme robotMatrix requests answers out′)
+      Alike s m requests (runBytes scheme matrix requests answers out) (runBytes robotScheme robotMatrix requests answers out′)
   complete requests answers out out′ room room′ =
       let a = call-runs office requests answers out room in
       let b = call-runs robot requests answers out′ room′ in
@@ -49,7 +49,10 @@ module _ (s : Scheme) (m : Matrix) (scheme matrix robotScheme robotMatrix : List
       record {
         sameNumber = number;
         sameReport = report;
-        sameAnswers = b .answers ∙ same-answers s m (c .ok) (c .of) (c .can) requests answers ∙ sym (a .answers);
+        sameAnswers = rw (b .answers, a .answers) (same-answers s m (c .ok) (c .of) (c .can) requests answers);
+        robotSteps = λ e.
+            let fits = had-room office requests answers out e .0 in
+            rw (b .answers) (robot-steps s m (c .ok) (c .of) (c .can) requests answers (le→leb _ _ fits));
         mirrored = λ e.
             let (end, is, stands) = a .left e in
             let (end′, is′, stands′) = b .left (number ∙ e) in

@@ -168,7 +168,7 @@ pub same-told : {s s′ : Scheme} {c c′ : Ran} {r r′ : Result} → AsRun s c
 same-told {r = r} a b same = rw (a .called, b .called, same) (alike (b .size) (a .size) (r .ran .answer))
 
 -- ---- what a run carried out, the call did
-pub all-done : {s : Scheme} {qs : List Request} {c : Ran} {r : Result} → AsRun s c r → CarriedOut qs r → AllCarriedOut qs c
+pub all-done : {s : Scheme} {qs : List Request} {c : Ran} {r : Result} → AsRun s c r → CarriedOut s qs r → AllCarriedOut s qs c
 all-done {qs = qs} {c = c} a did =
     let told : c .called ≡ endingBy (a .size) (ended.Whole (length qs)) = a .called ∙ rw (did .ended) in
     record {

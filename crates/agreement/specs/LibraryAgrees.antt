@@ -6,7 +6,7 @@ use mathlib.Core.Option.{none}
 use mathlib.Core.List.{List}
 use lib.ListN.{length, take, drop, getD, replicate}
 use Rattle.model.specs.Request.{Request}
-use Rattle.model.specs.Answers.{replyTo, replyWidth, replyBytes}
+use Rattle.model.specs.Answers.{replyTo, replyWidth, replyBytes, repliesIn}
 use Rattle.model.specs.Arrays.{noScheme}
 use Rattle.model.specs.Seats.{Matrix, noThings, standsFor}
 use Rattle.model.specs.declared.Scheme.{Scheme}
@@ -19,7 +19,8 @@ use Rattle.matrix_bytes.specs.Answers.{readMatrix}
 use Rattle.matrix_bytes.specs.declared.answers.MatrixAnswer.{MatrixAnswer}
 use Rattle.request_list.specs.List.{readList, listBytes}
 use Rattle.robot.specs.Library.{Called, Ran, Wrote, runBytes, convertSchemeBytes, convertMatrixBytes}
-use Rattle.agreement.specs.Agreement.{obeyedBy}
+use Rattle.agreement.specs.Replies.{ToEach, obeyedBy, besidesSteps}
+use Rattle.agreement.specs.Agreement.{Doubles}
 
 -- ---- what a call tells
 
@@ -56,19 +57,24 @@ abbrev pub IsMatrix : List ℕ → Scheme → Matrix → Type 0
 IsMatrix bytes s m =
     _≡_ {A = MatrixAnswer × List ℕ} (readMatrix bytes s noThings (replicate 2304 0)) (record { answer = Done (length bytes); things = m .things }, m .cells)
 
--- these requests were run, and each was carried out: as many answers were stored, each says so, and no record was left unread
-pub record AllCarriedOut (qs : List Request) (r : Ran) : Type 0 where
+-- these requests of a scheme were run, and each was carried out: as many answers were stored, each says so, with the steps of all its tests and operations,
+-- and no record was left unread
+pub record AllCarriedOut (s : Scheme) (qs : List Request) (r : Ran) : Type 0 where
   pub called : r .called .number ≡ 0
   pub whole : getD (r .called .report) 4 0 ≡ 0
   pub asMany : stored (r .called) ≡ length qs
-  pub replied : take (replyWidth * length qs) (r .answers) ≡ eachBytes (λ (q : Request). replyBytes (replyTo none)) qs
+  pub replied : take (replyWidth * length qs) (r .answers) ≡ eachBytes (λ (q : Request). replyBytes (replyTo s q none)) qs
 
 -- ---- the office runs its own bytes, a robot with every entry the converted ones: the same list, the same buffer for the answers
-pub record Alike (s : Scheme) (office robot : Ran) : Type 0 where
-  -- the same number, the same report but for the bytes written, the same answers
+pub record Alike (s : Scheme) (start : Matrix) (requests : List ℕ) (office robot : Ran) : Type 0 where
+  -- the same number, the same report but for the bytes written, the same answers but for the steps
   pub sameNumber : robot .called .number ≡ office .called .number
   pub sameReport : besidesWritten (robot .called) ≡ besidesWritten (office .called)
-  pub sameAnswers : robot .answers ≡ office .answers
+  pub sameAnswers :
+      let n = length (readList requests .requests) in
+      besidesSteps n (robot .answers) ≡ besidesSteps n (office .answers)
+  -- the office's steps are tests and operations (`HowManySteps`); the robot's are those tests and twice those operations
+  pub robotSteps : office .called .number ≡ 0 → ToEach (Doubles s) s (standsFor start) (readList requests .requests) (repliesIn (robot .answers))
   -- and what both then wrote are the bytes of matrices that mirror: the same things, the plain rights agree, a partner stands exactly where its right
   -- doesn't
   pub mirrored : office .called .number ≡ 0 →
@@ -76,8 +82,8 @@ pub record Alike (s : Scheme) (office robot : Ran) : Type 0 where
 
 -- ---- a robot that started with entries missing carried out these, and stopped: the office, the robot and a complete robot run just them
 pub record Stricter (s : Scheme) (ps : List Request) (office poor full : Ran) : Type 0 where
-  pub officeDoes : AllCarriedOut ps office
-  pub robotDid : AllCarriedOut ps poor
+  pub officeDoes : AllCarriedOut s ps office
+  pub robotDid : AllCarriedOut (convertScheme s) ps poor
   pub noEntryMore :
       (p : Matrix) × (c : Matrix) × IsMatrix (matrixAfter poor) (convertScheme s) p × IsMatrix (matrixAfter full) (convertScheme s) c × Within (standsFor p) (standsFor c)
 
@@ -93,7 +99,7 @@ pub record CallsAgree (scheme matrix robotScheme robotMatrix : List ℕ) : Type 
   pub robotIsMatrix : IsMatrix robotMatrix (convertScheme s) robot
   -- With every entry there: whatever bytes are run as a list, whatever the buffers hold and however many answers fit.
   pub complete : (requests answers out out′ : List ℕ) → HasRoom out → HasRoom out′ →
-      Alike s (runBytes scheme matrix requests answers out) (runBytes robotScheme robotMatrix requests answers out′)
+      Alike s m requests (runBytes scheme matrix requests answers out) (runBytes robotScheme robotMatrix requests answers out′)
   -- A robot that starts with any entries missing (its bytes are those of a matrix `p` within the complete one) runs any list, and stops at its first
   -- refusal: ps is what it carried out before that, told from the answers that the call stored.
   pub incomplete : (poor requests answers out : List ℕ) (p : Matrix) → Bytes poor → IsMatrix poor (convertScheme s) p → Within (standsFor p) (standsFor robot) →

@@ -66,7 +66,7 @@ allStarred =
     ∷ robot (record {
       of = keyScheme;
       requests = ask 1 (9 ∷ 12 ∷ []) ∷ ask 0 (5 ∷ 9 ∷ []) ∷ [];
-      replies = says 0 ∷ says 0 ∷ [];
+      replies = says 0 4 ∷ says 0 3 ∷ [];
       cells = is 9 12 90 ∷ is 9 9 180 ∷ [];
       things = [];
     })
@@ -74,7 +74,7 @@ allStarred =
     ∷ robot (record {
       of = keyScheme;
       requests = ask 1 (9 ∷ 12 ∷ []) ∷ ask 0 (5 ∷ 9 ∷ []) ∷ ask 1 (9 ∷ 12 ∷ []) ∷ [];
-      replies = says 0 ∷ says 0 ∷ stopsAt 1 ∷ [];
+      replies = says 0 4 ∷ says 0 3 ∷ stopsAt 1 2 ∷ [];
       cells = [];
       things = [];
     })

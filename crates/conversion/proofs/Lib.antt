@@ -1,5 +1,5 @@
 -- The proofs of what `Promises` (`Converted`) and `Demand3` state (`Demand3`, with `Robot`, an instance of model's `Translation`, for its first half and
--- `Poorer` for its second), and the laws behind them.
+-- `Poorer` for its second), `RobotSteps`, and the laws behind them.
 pub mod Lists
 pub mod Built
 pub mod Mirror
@@ -10,3 +10,4 @@ pub mod Demand3
 pub mod MatrixAccepted
 pub mod SchemeAccepted
 pub mod Converted
+pub mod RobotSteps

@@ -1,13 +1,14 @@
--- Laws that more than one file of these proofs cites: few rights, what holds of both cases, and a converted list of cells place by place.
+-- Laws that more than one file of these proofs cites: few rights, what holds of both cases, a list made into another and a converted list of cells, place by place.
 -- Assumes nothing.
 use Prim.Native.Nat.{ℕ, zero, suc, _+_, _*_, _/_, _%_, _≤_, _<_}
 use mathlib.Core.Path.{_≡_, refl, ap, _∙_}
 use mathlib.Core.Bool.{Bool, true, false, cond}
-use mathlib.Core.List.{List, [], _∷_}
+use mathlib.Core.Option.{Option·map}
+use mathlib.Core.List.{List, [], _∷_, map}
 use native.Mathlib.Nat.{add-zero, add-suc, suc-add, zero-add, not-suc-le-zero, le-of-suc-le-suc}
 use native.Mathlib.Omega.{arith}
 use lib.Dec.{T, leb→le}
-use lib.ListN.{length, getD}
+use lib.ListN.{length, getD, getElem?}
 use Rattle.rights.specs.Sets.{converted}
 use Rattle.model.specs.Accepted.{standing}
 use Rattle.model.specs.declared.Head.{Head}
@@ -26,6 +27,13 @@ few-rights s t = leb→le _ 32 (search (first-pass, then-pass, must-pass))
 pub by-cond : {A : Type 0} (P : A → Type 0) (b : Bool) (u v : A) → (T b → P u) → P v → P (cond b u v)
 by-cond P true u v f p = f tt
 by-cond P false u v f p = p
+
+-- ---- a list's elements, each made into another
+
+pub get-map : {A B : Type 0} (f : A → B) (l : List A) (i : ℕ) → getElem? (map f l) i ≡ Option·map f (getElem? l i)
+get-map f [] i = refl
+get-map f (a ∷ l) zero = refl
+get-map f (a ∷ l) (suc i) = get-map f l i
 
 -- ---- cells
 

@@ -51,7 +51,7 @@ pub record Safe (s : Scheme) (office robot poor : State) (ps : List Request) : T
   pub noEntryMore : Within (run papers (convertScheme s) poor ps) (run papers (convertScheme s) robot ps)
 
 pub record Agree (s : Scheme) (office robot : State) (qs : List Request) : Type 0 where
-  -- With every entry there, each answer is equal.
+  -- With every entry there, each answer is equal: the number, and with 14 the test's place. Steps are no part of an answer, and they differ (`RobotSteps`).
   pub sameAnswers : answers papers (convertScheme s) robot qs ≡ answers papers s office qs
   -- After each request the things are the same, the plain rights agree, and a partner stands exactly where its right doesn't.
   pub afterEach : (k : ℕ) → Mirrors (s .head) (run papers s office (take k qs)) (run papers (convertScheme s) robot (take k qs))

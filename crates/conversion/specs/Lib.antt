@@ -1,4 +1,6 @@
--- What a customer has to believe of conversion (`Conversion`), and what is promised of it: `Promises`, and demand 3 in a file of its own.
+-- What a customer has to believe of conversion (`Conversion`), and what is promised of it: `Promises`, and in files of their own demand 3 and how many
+-- steps a robot takes (`RobotSteps`).
 pub mod Conversion
 pub mod Promises
 pub mod Demand3
+pub mod RobotSteps

@@ -13,6 +13,7 @@ fn request(b: &[u8], s: Scheme, th: Things, cells: &mut [u64]) -> Things {
     let stepped = engine::request(s, th, cells, case::one_at(b, 0), &ids[0..n]);
     let answer = stepped.answer;
     print::pair(answer.number, answer.test as usize);
+    print::number(answer.steps as u64);
     stepped.things
 }
 

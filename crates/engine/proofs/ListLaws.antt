@@ -5,19 +5,19 @@ use native.Mathlib.Omega.{arith}
 use native.Mathlib.Nat.{zero-add, add-zero}
 use mathlib.Core.Path.{_≡_, refl, ap, _∙_}
 use mathlib.Core.Bool.{Bool, true, false, _&&_}
-use mathlib.Core.List.{List, [], _∷_, _++_, map, append-nil, append-assoc}
+use mathlib.Core.Option.{some}
+use mathlib.Core.List.{List, [], _∷_, _++_, append-nil, append-assoc}
 use lib.Dec.{T}
 use lib.ListN.{length, getD, length-append}
 use lib.Seq.{sets, length-sets}
 use borrow.Author.Tests.{le-leb, lt-leb}
-use Rattle.model.specs.Answers.{replyTo, replyWidth, replyBytes, repliesIn}
-use Rattle.model.specs.Request.{Request, View, Answer, answer, after, step, run, answers}
+use Rattle.model.specs.Answers.{Steps, takes, stepsOf, asksFor, inAll, replyOf, replyTo, replyEach, replyWidth, replyBytes, repliesIn}
+use Rattle.model.specs.Request.{Request, View, at, answer, after, step, run, answers}
 use Rattle.model.specs.Seats.{Matrix, matrixOf, seats}
 use Rattle.model.specs.Accepted.{acceptedScheme, acceptedMatrix}
 use Rattle.model.specs.declared.Command.{Command}
 use Rattle.model.specs.declared.Reply.{Reply}
 use Rattle.model.specs.declared.Scheme.{Scheme}
-use Rattle.model.specs.declared.Verdict.{Verdict}
 use Rattle.model.proofs.Joined.{kept}
 use Rattle.model.proofs.ReplyLaws.{replies-back}
 use Rattle.records.specs.Bytes.{eachBytes}
@@ -38,7 +38,7 @@ use Rattle.engine.specs.declared.answers.Carried.{Carried}
 use Rattle.engine.specs.declared.answers.Ran.{Ran}
 use Rattle.engine.specs.declared.answers.RunAnswer.{RunAnswer}
 use Rattle.engine.specs.declared.answers.RunAnswer.the-variants.{Whole, Refused}
-use Rattle.engine.proofs.StepLaws.{answer-back, refusedWith, no-command, command-step}
+use Rattle.engine.proofs.StepLaws.{refusedWith, no-command, asks-for-none, asks-for-all, command-step, told-few, told-reply}
 
 -- ---- the replies: how long they are, and what they read as
 
@@ -46,48 +46,56 @@ pub reply-long : (r : Reply) → length (replyBytes r) ≡ replyWidth
 unfolding replyBytes
 reply-long r = refl
 
--- as many answers as requests
-pub answers-length : {M : Type 0} (view : View M) (s : Scheme) (m : M) (qs : List Request) → length (answers view s m qs) ≡ length qs
-unfolding answers
-answers-length view s m [] = refl
-answers-length view s m (q ∷ qs) = ap suc (answers-length view s (after m (step view s m q)) qs)
-
-pub replies-length : (l : List Answer) → length (eachBytes (λ (a : Answer). replyBytes (replyTo a)) l) ≡ replyWidth * length l
+pub replies-length : (list : List Reply) → length (eachBytes replyBytes list) ≡ replyWidth * length list
 replies-length [] = refl
-replies-length (a ∷ rest) = length-append (replyBytes (replyTo a)) _ ∙ omega (arith, reply-long (replyTo a), replies-length rest)
+replies-length (r ∷ rest) = length-append (replyBytes r) _ ∙ omega (arith, reply-long r, replies-length rest)
+
+-- a reply to each of them
+pub replies-many : {M : Type 0} (view : View M) (s : Scheme) (m : M) (qs : List Request) → length (replyEach s qs (answers view s m qs)) ≡ length qs
+unfolding answers replyEach
+replies-many view s m [] = refl
+replies-many view s m (q ∷ qs) = ap suc (replies-many view s (after m (step view s m q)) qs)
 
 replies-long : (s : Scheme) (m : Matrix) (qs : List Request) → length (repliesTo s m qs) ≡ replyWidth * length qs
-replies-long s m qs = omega (arith, replies-length (answers seats s m qs), answers-length seats s m qs)
+replies-long s m qs = omega (arith, replies-length (replyEach s qs (answers seats s m qs)), replies-many seats s m qs)
 
 -- they read as these replies, and what is behind them
-pub replies-stored : (list : List Answer) (more : List ℕ) →
-    repliesIn (eachBytes (λ (a : Answer). replyBytes (replyTo a)) list ++ more) ≡ map replyTo list ++ repliesIn more
+pub replies-stored : (list : List Reply) (more : List ℕ) → repliesIn (eachBytes replyBytes list ++ more) ≡ list ++ repliesIn more
 replies-stored [] more = refl
-replies-stored (a ∷ list) more =
-    rw (append-assoc, replies-back (replyTo a) (eachBytes (λ (a : Answer). replyBytes (replyTo a)) list ++ more), replies-stored list more)
+replies-stored (r ∷ list) more = rw (append-assoc, replies-back r (eachBytes replyBytes list ++ more), replies-stored list more)
 
 -- ---- what the step of a request that was read gives
 
--- the verdict and the matrix left are the step's
-pub record Turned (s : Scheme) (m : Matrix) (q : Form) (v : Verdict) (next : Matrix) : Type 0 where
-  pub said : answerOf v ≡ answer (step seats s m (asked q))
+-- the reply and the matrix left are the step's
+pub record Turned (s : Scheme) (m : Matrix) (q : Form) (y : Reply) (next : Matrix) : Type 0 where
+  pub said : y ≡ replyTo s (asked q) (answer (step seats s m (asked q)))
   pub left : next ≡ after m (step seats s m (asked q))
 
 module _ (s : Scheme) (m : Matrix) (q : Form) where
   turned : (now : Carried) (cells : List ℕ) → _≡_ {A = Carried × List ℕ} (now, cells) (carried m (step seats s m (asked q)))
-      → Turned s m q (now .answer) (matrixOf (now .things) cells)
-  turned now cells e = record {
-    said = ap (λ (x : Carried × List ℕ). answerOf (x .0 .answer)) e ∙ answer-back _;
+      → (all : Steps) → asksFor s (asked q) ≡ all → (y : Reply) → y ≡ replyOf all (answerOf (now .answer)) → Turned s m q y (matrixOf (now .things) cells)
+  turned now cells e all has y is = record {
+    said = is ∙ told-reply s m (q .command) (idsOf q) now cells e all has;
     left = ap (λ (x : Carried × List ℕ). matrixOf (x .0 .things) (x .1)) e;
   }
 
-  pub turned-none : s .head .count ≤ q .command → (v : Verdict) → v ≡ refusedWith 10 (m .things) .answer → Turned s m q v m
-  turned-none h v e = rw e (turned _ _ (no-command s m (q .command) (idsOf q) h (refusedWith 10 (m .things)) refl))
+  pub turned-none : s .head .count ≤ q .command → (y : Reply) → y ≡ replyOf (takes 0 0) (some (at 10 0)) → Turned s m q y m
+  turned-none h =
+      turned (refusedWith 10 (m .things)) _ (no-command s m (q .command) (idsOf q) h (refusedWith 10 (m .things)) refl) _ (asks-for-none s (q .command) h)
 
-  pub turned-some : T (acceptedScheme s) → T (acceptedMatrix (s .head) m) → q .command < s .head .count → (d : Command) (now : Carried) (cells : List ℕ)
-      → _≡_ {A = Carried × List ℕ} (now, cells) (carried m (planned m (idsOf q) (getD (s .commands) (q .command) d)))
-      → Turned s m q (now .answer) (matrixOf (now .things) cells)
-  turned-some ok held h d now cells e = turned now cells (command-step s ok m held (q .command) h d (idsOf q) _ e)
+  module _ (ok : T (acceptedScheme s)) (of : T (acceptedMatrix (s .head) m)) (h : q .command < s .head .count) (d : Command) (now : Carried) (cells : List ℕ)
+      (e : _≡_ {A = Carried × List ℕ} (now, cells) (carried m (planned m (idsOf q) (getD (s .commands) (q .command) d)))) where
+    abbrev all : Steps
+    all = takes (getD (s .commands) (q .command) d .tests .count) (getD (s .commands) (q .command) d .operations .count)
+
+    stepped : _≡_ {A = Carried × List ℕ} (now, cells) (carried m (step seats s m (asked q)))
+    stepped = command-step s ok m of (q .command) h d (idsOf q) _ e
+
+    pub turn-few : inAll (stepsOf all (answerOf (now .answer))) ≤ 48
+    turn-few = told-few s m (q .command) (idsOf q) now cells stepped all (asks-for-all s ok m of (q .command) h d) ok
+
+    pub turned-some : (y : Reply) → y ≡ replyOf all (answerOf (now .answer)) → Turned s m q y (matrixOf (now .things) cells)
+    turned-some = turned now cells stepped all (asks-for-all s ok m of (q .command) h d)
 
 -- ---- the requests done and the requests left are the whole
 
@@ -126,14 +134,12 @@ module _ {s : Scheme} {first : Matrix} {bytes buffer : List ℕ} {m : Matrix} {o
   same-room = ap length (r .stored) ∙ length-sets buffer 0 (r .said)
 
   pub running-on : T (acceptedScheme s) → p < length bytes → (a : RequestAnswer) → a ≡ readRequest bytes p
-      → (next : ℕ) → a .answer ≡ request-reading.Done next → (v : Verdict) (now : Matrix) → Turned s m (a .request) v now
-      → (y : Reply) → y ≡ replyTo (answerOf v) → (out′ : List ℕ) → out′ ≡ sets out (n * replyWidth) (replyBytes y)
-      → Running s first bytes buffer now out′ (n + 1) next
-  unfolding run answers
-  running-on ok more a is next on v now t y ye out′ put =
+      → (next : ℕ) → a .answer ≡ request-reading.Done next → (y : Reply) (now : Matrix) → Turned s m (a .request) y now
+      → (out′ : List ℕ) → out′ ≡ sets out (n * replyWidth) (replyBytes y) → Running s first bytes buffer now out′ (n + 1) next
+  unfolding run answers replyEach
+  running-on ok more a is next on y now t out′ put =
       let (rest, c, l) = counting-on (r .counting) more a is next on in
       let qs : r .left .requests ≡ asked (a .request) ∷ rest .requests = ap (λ (x : Listed). x .requests) l in
-      let reply : y ≡ replyTo (answer (step seats s m (asked (a .request)))) = ye ∙ ap replyTo (t .said) in
       record {
         left = rest;
         counting = c;
@@ -141,7 +147,7 @@ module _ {s : Scheme} {first : Matrix} {bytes buffer : List ℕ} {m : Matrix} {o
         long = length-append (r .said) (replyBytes y) ∙ omega (arith, r .long, reply-long y);
         ending = r .ending ∙ ap (λ (x : Listed). x .ending) l;
         ran = rw (t .left) (rw qs at (r .ran));
-        told = rw (t .left, append-assoc, reply) (rw qs at (r .told));
+        told = rw (t .left, append-assoc, t .said) (rw qs at (r .told));
         stored = rw (sets-append, zero-add, r .long, ← r .stored) put;
         held = rw (t .left) (kept s m (asked (a .request)) ok (r .held));
       }
@@ -150,7 +156,7 @@ module _ {s : Scheme} {first : Matrix} {bytes buffer : List ℕ} {m : Matrix} {o
   result answer = record { ran = record { answer = answer; things = m .things }; cells = m .cells; replies = out }
 
   finish : (e : Reading) → r .left ≡ ended e → result (runAnswer n e) ≡ ranOn s first bytes buffer
-  unfolding ranOn run answers
+  unfolding ranOn run answers replyEach
   finish e l =
       let qs : r .left .requests ≡ [] = ap (λ (x : Listed). x .requests) l in
       let long : length (readList bytes .requests) ≡ n = r .counting .total ∙ rw (qs, add-zero) in

@@ -19,7 +19,7 @@ use Rattle.laws.proofs.Padded.{used}
 use Rattle.model.specs.Scheme.{parametersOf, testsOf, operationsOf, idAt, typeAt, isNew, noType}
 use Rattle.model.specs.Request.{Outcome, done, refused, at, ofType, unlessFault, andThen, placesFault, holds, testsFault, act, operate, operateAll, carryOut}
 use Rattle.model.specs.Seats.{Matrix, matrixOf, seats, known, full, mayTake, place, cell, change, putThing, add, remove}
-use Rattle.model.specs.Accepted.{group, commandFault, paddedCommand, acceptedCommand, acceptedMatrix}
+use Rattle.model.specs.Accepted.{group, commandFault, zeroTest, zeroOperation, paddedCommand, acceptedCommand, acceptedMatrix}
 use Rattle.model.specs.declared.Test.{Test}
 use Rattle.model.specs.declared.Code.{Code}
 use Rattle.model.specs.declared.Code.the-variants.{Enter, Delete, Create, Destroy}
@@ -188,6 +188,14 @@ module _ (c : Command) (m : Matrix) (ready : Ready c m) where
   types-used : length (parametersOf (c .parameters)) ≡ c .parameters .count
   unfolding acceptedCommand paddedCommand
   types-used = let a : T (acceptedCommand (ready .head) c) = ready .command in used zeroType 8 _ _ (search passed) few
+
+  -- the tests and the operations are as many as it counts
+  pub lists-used : (length (testsOf (c .tests)) ≡ c .tests .count) × (length (operationsOf (c .operations)) ≡ c .operations .count)
+  unfolding acceptedCommand paddedCommand commandFault between
+  lists-used =
+      let a : T (acceptedCommand (ready .head) c) = ready .command in
+      let ok = passes-all in
+      (used zeroTest 16 _ _ (search passed) (leb→le _ _ (search passed)), used zeroOperation 32 _ _ (search passed depth 8) (leb→le _ _ (search passed depth 8)))
 
   pub counted : Counted c (m .cells)
   unfolding commandFault between

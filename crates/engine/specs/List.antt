@@ -5,8 +5,8 @@ use mathlib.Core.Bool.{cond, _&&_}
 use mathlib.Core.List.{List, [], _∷_}
 use lib.Dec.{leb}
 use lib.ListN.{length}
-use Rattle.model.specs.Answers.{replyTo, replyWidth, replyBytes}
-use Rattle.model.specs.Request.{Request, Answer, run, answers}
+use Rattle.model.specs.Answers.{replyEach, replyWidth, replyBytes}
+use Rattle.model.specs.Request.{Request, run, answers}
 use Rattle.model.specs.Seats.{Matrix, seats}
 use Rattle.model.specs.Accepted.{acceptedScheme, acceptedMatrix}
 use Rattle.model.specs.declared.Scheme.{Scheme}
@@ -34,7 +34,7 @@ ofRun (Refused k) = told k []
 
 -- the bytes of the replies to all of them, one behind the other
 abbrev pub repliesTo : Scheme → Matrix → List Request → List ℕ
-repliesTo s m qs = eachBytes (λ (a : Answer). replyBytes (replyTo a)) (answers seats s m qs)
+repliesTo s m qs = eachBytes replyBytes (replyEach s qs (answers seats s m qs))
 
 -- what is given: the answer with the things, the cells, and the buffer for the replies
 pub record Result : Type 0 where

@@ -61,17 +61,18 @@ fn run_all(s: Scheme, th: Things, cells: &mut [u64], bytes: &[u8], out: &mut [u8
         let RequestReading::Done { next } = answer else {
             return ended(n, answer, things);
         };
-        let mut verdict = refused(10);
+        let mut told = reply(refused(10), 0, 0);
         if q.command < h.count {
             let i = q.command as usize;
             let k = q.count as usize;
             let ids = q.ids;
             let c = s.commands[i];
             let carried = carry_out(c, things, cells, &ids[..k]);
-            verdict = carried.answer;
+            let verdict = carried.answer;
+            told = reply(verdict, c.tests.count, c.operations.count);
             things = carried.things;
         }
-        put_reply(out, n, reply(verdict));
+        put_reply(out, n, told);
         n += 1;
         p = next; // whatever was answered
     }

@@ -17,14 +17,14 @@ ghost use mathlib.Core.Path.{_≡_};
 ghost use mathlib.Core.Bool.{_&&_};
 ghost use mathlib.Core.List.{List};
 ghost use mathlib.Core.Option.{some};
-ghost use Prim.Native.Nat.{ℕ};
+ghost use Prim.Native.Nat.{ℕ, _≤_};
 ghost use lib.Dec.{T};
-ghost use Rattle.model.specs.Answers.{verdictOf, replyTo};
-ghost use Rattle.model.specs.Request.{at, step};
-ghost use Rattle.model.specs.Seats.{seats, matrixOf};
+ghost use Rattle.model.specs.Answers.{verdictOf, takes, stepsOf, inAll, replyOf};
+ghost use Rattle.model.specs.Request.{at};
+ghost use Rattle.model.specs.Seats.{matrixOf};
 ghost use Rattle.model.specs.Accepted.{acceptedScheme, acceptedMatrix};
 ghost use Rattle.engine.specs.Step.{requestOn};
-ghost use Rattle.engine.specs.Inner.Carry.{Counted, answerOf, carried, planned};
+ghost use Rattle.engine.specs.Inner.Carry.{Counted, answerOf, carried, planned, stepOn};
 
 // A request that ends here leaves the things as they are.
 fn stop(answer: Verdict, th: Things) -> Carried
@@ -39,13 +39,15 @@ fn refuse(number: u8, th: Things) -> Carried
     stop(refused(number), th)
 }
 
-fn told(c: Carried) -> Stepped
-    ensures { λ r. ⌜ r ≡ record { answer = replyTo (answerOf (c .answer)); things = c .things } ⌝ }
+// What is told of it, of a command with so many tests and operations.
+fn told(c: Carried, tests: u8, operations: u8) -> Stepped
+    requires { ⌜ inAll (stepsOf (takes tests operations) (answerOf (c .answer))) ≤ 48 ⌝ }
+    ensures { λ r. ⌜ r ≡ record { answer = replyOf (takes tests operations) (answerOf (c .answer)); things = c .things } ⌝ }
 {
     let answer = c.answer;
     let things = c.things;
     Stepped {
-        answer: reply(answer),
+        answer: reply(answer, tests, operations),
         things,
     }
 }
@@ -83,17 +85,18 @@ pub(crate) fn carry_out(c: Command, th: Things, cells: &mut [u64], ids: &[u16]) 
 }
 
 // A request of an accepted scheme and matrix.
-fn step_on(s: Scheme, th: Things, cells: &mut [u64], command: u8, ids: &[u16]) -> Carried
+fn step_on(s: Scheme, th: Things, cells: &mut [u64], command: u8, ids: &[u16]) -> Stepped
     requires { ⌜ T (acceptedScheme s) × T (acceptedMatrix (s .head) (matrixOf th (now cells))) ⌝ }
-    ensures { λ r. ⌜ _≡_ {A = Carried × List ℕ} (r, now (cells .exit)) (carried (matrixOf th (now (cells .entry))) (step seats s (matrixOf th (now (cells .entry))) (record { command = command; ids = now (ids .entry) }))) ⌝ }
+    ensures { λ r. ⌜ _≡_ {A = Stepped × List ℕ} (r, now (cells .exit)) (stepOn s (matrixOf th (now (cells .entry))) command (now (ids .entry))) ⌝ }
 {
     let h = s.head;
     if h.count <= command {
-        return refuse(10, th);
+        return told(refuse(10, th), 0, 0);
     }
     let i = command as usize;
     let c = s.commands[i];
-    carry_out(c, th, cells, ids)
+    let carried = carry_out(c, th, cells, ids);
+    told(carried, c.tests.count, c.operations.count)
 }
 
 // Whether both are accepted (27).
@@ -112,7 +115,7 @@ pub fn request(s: Scheme, th: Things, cells: &mut [u64], command: u8, ids: &[u16
     ensures { λ r. ⌜ _≡_ {A = Stepped × List ℕ} (r, now (cells .exit)) (requestOn s (matrixOf th (now (cells .entry))) command (now (ids .entry))) ⌝ }
 {
     if !all_accepted(s, th, cells) {
-        return told(refuse(27, th));
+        return told(refuse(27, th), 0, 0);
     }
-    told(step_on(s, th, cells, command, ids))
+    step_on(s, th, cells, command, ids)
 }

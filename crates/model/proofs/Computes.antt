@@ -4,7 +4,7 @@ use Rattle.rights.specs.Sets.{has, single, enterRight, deleteRight, within}
 use Rattle.laws.specs.Check.{_orElse_, must, passes, any, all, isSome, between, firstFault, padded}
 use Rattle.model.specs.Scheme.{isSubject, typeAt, idAt, creates, destroys, names, isNew, creatable, destroyable}
 use Rattle.model.specs.Request.{isId, answer, number, after, unlessFault, andThen, typeFault, placeFault, placesFault, holds, testsFault, act, operate, operateAll, carryOut, carryOutIf, step, run, answers}
-use Rattle.model.specs.Answers.{testPlace, replyTo, replyBytes}
+use Rattle.model.specs.Answers.{testPlace, allSteps, stepsOf, stepsTo, replyOf, replyTo, replyEach, replyBytes}
 use Rattle.model.specs.Papers.{mayCreate, changeCell, emptied, nowIs, nowHas, born, gone, papers}
 use Rattle.model.specs.Seats.{among, find, known, full, seat, thingIn, thingAt, mayTake, paperThings, place, cell, change, putThing, blank, add, remove, seats, standsFor}
 use Rattle.model.specs.Arrays.{commandOf, noCommand, schemeOf}
@@ -21,8 +21,13 @@ unfoldable pub faults-compute : Unit {0}
 unfolding isSubject typeAt idAt creates destroys names isNew isId unlessFault typeFault placeFault placesFault holds testsFault
 faults-compute = tt
 
+-- what is told of it
+unfoldable pub replies-compute : Unit {0}
+unfolding testPlace allSteps stepsOf stepsTo replyOf replyTo replyEach replyBytes
+replies-compute = tt
+
 unfoldable pub requests-compute : Unit {0}
-unfolding sets-compute faults-compute answer number after andThen act operate operateAll carryOut carryOutIf step run answers testPlace replyTo replyBytes
+unfolding sets-compute faults-compute answer number after andThen act operate operateAll carryOut carryOutIf step run answers replies-compute
 requests-compute = tt
 
 -- the two forms of a matrix

@@ -11,16 +11,16 @@ use lib.Dec.{T}
 use lib.ListN.{length, getElem?}
 use borrow.Author.Tests.{eq-eqb, ne-eqb}
 use Rattle.laws.specs.Check.{all}
-use Rattle.model.specs.Scheme.{testsOf, commandsOf}
+use Rattle.model.specs.Scheme.{parametersOf, testsOf, operationsOf, commandsOf}
 use Rattle.model.specs.Request.{Request, View, Answer, at, answer, number, holds, testsFault, step}
-use Rattle.model.specs.Answers.{testPlace, replyTo}
+use Rattle.model.specs.Answers.{testPlace, replyOf, replyTo}
 use Rattle.model.specs.FirstTest.{FirstFalse, TellsTest, FirstTest}
 use Rattle.model.specs.declared.Test.{Test}
 use Rattle.model.specs.declared.Command.{Command}
 use Rattle.model.specs.declared.Refusal.{Refusal}
 use Rattle.model.specs.declared.Scheme.{Scheme}
 use Rattle.laws.proofs.Bools.{is-true, and-left, and-right}
-use Rattle.model.proofs.Refusals.{tests-stop, tests-go-on, IfRefused, EveryRefusal, request-gives}
+use Rattle.model.proofs.Refusals.{tests-stop, tests-go-on, IfRefused, EveryOperation, EarlyRefusals, operations-give, request-gives}
 
 module _ {M : Type 0} (view : View M) where
   -- ---- the first that doesn't hold is the fault, from any place on
@@ -41,27 +41,30 @@ module _ {M : Type 0} (view : View M) where
     abbrev IfTest : Refusal → Type 0
     IfTest r = r .number ≡ 14 → Stopped (r .place)
 
-    others : EveryRefusal IfTest
-    others = record {
+    early : EarlyRefusals IfTest
+    early = record {
       noCommand = λ e. absurd (omega arith);
       otherCount = λ e. absurd (omega arith);
-      noThing = λ e. absurd (omega arith);
-      otherType = λ e. absurd (omega arith);
-      mayNot = λ p e. absurd (omega arith);
-      isFull = λ p e. absurd (omega arith);
-      isGone = λ p e. absurd (omega arith);
+      places = record { noThing = λ e. absurd (omega arith); otherType = λ e. absurd (omega arith) };
     }
 
-    told : (a : Answer) → IfRefused IfTest a → TellsTest view s m q (replyTo a)
-    unfolding IfRefused replyTo number testPlace
+    late : (p : ℕ) → EveryOperation IfTest p
+    late p = record { mayNot = λ e. absurd (omega arith); isFull = λ e. absurd (omega arith); isGone = λ e. absurd (omega arith) }
+
+    told : (a : Answer) → IfRefused IfTest a → TellsTest view s m q (replyTo s q a)
+    unfolding IfRefused replyTo replyOf number testPlace
     told none h = record { stopped = λ e. absurd (omega arith); otherwise = λ e. refl }
     told (some r) h = record {
       stopped = λ e. rw (eq-eqb (r .number) 14 e) (h e);
       otherwise = λ e. rw (ne-eqb (r .number) 14 e);
     }
 
-    tells : TellsTest view s m q (replyTo (answer (step view s m q)))
-    tells = told _ (request-gives IfTest others view s m q (λ c is k first e. (c, is, first)))
+    tells : TellsTest view s m q (replyTo s q (answer (step view s m q)))
+    tells =
+        told _ (request-gives IfTest view early s m q (λ c is. record {
+          test = λ k first e. (c, is, first);
+          operation = operations-give IfTest view late (parametersOf (c .parameters)) (q .ids) 0 (operationsOf (c .operations)) m;
+        }))
 
   pub first-test : FirstTest view
   first-test = record {

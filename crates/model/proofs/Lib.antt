@@ -21,3 +21,4 @@ pub mod Refusals
 pub mod ReplyLaws
 pub mod Numbers
 pub mod FirstTest
+pub mod StepsTaken

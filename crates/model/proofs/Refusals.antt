@@ -58,18 +58,24 @@ unfoldable pub IfRefused : (Refusal → Type 0) → Answer → Type 0
 IfRefused P none = Unit {0}
 IfRefused P (some r) = P r
 
--- all the refusals that a request can meet are so; 14 is asked for apart, since of that it is known which test gave it
-pub record EveryRefusal (P : Refusal → Type 0) : Type 0 where
-  pub noCommand : P (at 10 0)
-  pub otherCount : P (at 11 0)
+-- all the refusals of a place are so; all those of the operation at place p
+pub record EveryPlace (P : Refusal → Type 0) : Type 0 where
   pub noThing : P (at 12 0)
   pub otherType : P (at 13 0)
-  pub mayNot : (p : ℕ) → P (at 15 p)
-  pub isFull : (p : ℕ) → P (at 16 p)
-  pub isGone : (p : ℕ) → P (at 17 p)
+
+pub record EveryOperation (P : Refusal → Type 0) (p : ℕ) : Type 0 where
+  pub mayNot : P (at 15 p)
+  pub isFull : P (at 16 p)
+  pub isGone : P (at 17 p)
+
+-- all that a request can meet before its tests
+pub record EarlyRefusals (P : Refusal → Type 0) : Type 0 where
+  pub noCommand : P (at 10 0)
+  pub otherCount : P (at 11 0)
+  pub places : EveryPlace P
 
 module _ (P : Refusal → Type 0) where
-  must-give : (b : Bool) (r : Refusal) → P r → IfRefused P (must b r)
+  pub must-give : (b : Bool) (r : Refusal) → P r → IfRefused P (must b r)
   unfolding must IfRefused
   must-give true r h = tt
   must-give false r h = h
@@ -96,60 +102,65 @@ module _ (P : Refusal → Type 0) where
     then-give (done m) f h k = k m
     then-give (refused r) f h k = h
 
-  module _ (each : EveryRefusal P) where
-    type-gives : (t : ThingType) (o : Option Thing) → IfRefused P (typeFault t o)
-    unfolding typeFault IfRefused
-    type-gives t none = each .noThing
-    type-gives t (some u) = must-give (sameType (u .type) t) (at 13 0) (each .otherType)
+  type-gives : EveryPlace P → (t : ThingType) (o : Option Thing) → IfRefused P (typeFault t o)
+  unfolding typeFault IfRefused
+  type-gives each t none = each .noThing
+  type-gives each t (some u) = must-give (sameType (u .type) t) (at 13 0) (each .otherType)
 
-    module _ {M : Type 0} (view : View M) where
-      places-give : (m : M) (os : List Operation) (p : ℕ) (ts : List ThingType) (xs : List ℕ) → IfRefused P (placesFault view m os p ts xs)
-      unfolding placesFault placeFault IfRefused
-      places-give m os p [] xs = tt
-      places-give m os p (t ∷ ts) [] = tt
-      places-give m os p (t ∷ ts) (x ∷ xs) =
-          or-give _ _ (or-give _ _ (must-give (isId x) (at 12 0) (each .noThing)) (cond-give (isNew os (parameter p)) _ (type-gives t (view .thing m x))))
-          (places-give m os (suc p) ts xs)
+  module _ {M : Type 0} (view : View M) where
+    pub places-give : EveryPlace P → (m : M) (os : List Operation) (p : ℕ) (ts : List ThingType) (xs : List ℕ) → IfRefused P (placesFault view m os p ts xs)
+    unfolding placesFault placeFault IfRefused
+    places-give each m os p [] xs = tt
+    places-give each m os p (t ∷ ts) [] = tt
+    places-give each m os p (t ∷ ts) (x ∷ xs) =
+        or-give _ _ (or-give _ _ (must-give (isId x) (at 12 0) (each .noThing)) (cond-give (isNew os (parameter p)) _ (type-gives each t (view .thing m x))))
+        (places-give each m os (suc p) ts xs)
 
-      tests-give : (m : M) (ids : List ℕ) (p : ℕ) (ts : List Test) → ((k : ℕ) → FirstFalse view m ids ts k → P (at 14 (p + k))) →
-          IfRefused P (testsFault view m ids p ts)
-      unfolding IfRefused
-      tests-give m ids p [] law = unfold testsFault in tt
-      tests-give m ids p (t ∷ ts) law = go (holds view m ids t) refl (tests-give m ids (suc p) ts)
-        where
-          go : (b : Bool) → holds view m ids t ≡ b →
-              (((k : ℕ) → FirstFalse view m ids ts k → P (at 14 (suc p + k))) → IfRefused P (testsFault view m ids (suc p) ts)) →
-              IfRefused P (testsFault view m ids p (t ∷ ts))
-          go true e again = rw (tests-go-on view m ids p t ts e) (again (λ k first. rw (suc-add p k) (rw (add-suc p k) at (law (suc k) (false-behind view m ids t ts k e first)))))
-          go false e again = rw (tests-stop view m ids p t ts e) (rw add-zero at (law 0 (false-first view m ids t ts e)))
+    tests-give : (m : M) (ids : List ℕ) (p : ℕ) (ts : List Test) → ((k : ℕ) → FirstFalse view m ids ts k → P (at 14 (p + k))) →
+        IfRefused P (testsFault view m ids p ts)
+    unfolding IfRefused
+    tests-give m ids p [] law = unfold testsFault in tt
+    tests-give m ids p (t ∷ ts) law = go (holds view m ids t) refl (tests-give m ids (suc p) ts)
+      where
+        go : (b : Bool) → holds view m ids t ≡ b →
+            (((k : ℕ) → FirstFalse view m ids ts k → P (at 14 (suc p + k))) → IfRefused P (testsFault view m ids (suc p) ts)) →
+            IfRefused P (testsFault view m ids p (t ∷ ts))
+        go true e again = rw (tests-go-on view m ids p t ts e) (again (λ k first. rw (suc-add p k) (rw (add-suc p k) at (law (suc k) (false-behind view m ids t ts k e first)))))
+        go false e again = rw (tests-stop view m ids p t ts e) (rw add-zero at (law 0 (false-first view m ids t ts e)))
 
-      act-gives : (p : ℕ) (c : Code) (r : Right) (x y : ℕ) (t : ThingType) (m : M) → IfRefused P (answer (act view p c r x y t m))
-      unfolding act answer IfRefused
-      act-gives p Enter r x y t m = tt
-      act-gives p Delete r x y t m = tt
-      act-gives p Create r x y t m =
-          unless-give _ _
-          (or-give _ _ (must-give (view .mayCreate m x) (at 15 p) (each .mayNot p)) (must-give (not (view .full m)) (at 16 p) (each .isFull p))) tt
-      act-gives p Destroy r x y t m = unless-give _ _ (must-give (isSome (view .thing m x)) (at 17 p) (each .isGone p)) tt
+    pub act-gives : (p : ℕ) → EveryOperation P p → (c : Code) (r : Right) (x y : ℕ) (t : ThingType) (m : M) → IfRefused P (answer (act view p c r x y t m))
+    unfolding act answer IfRefused
+    act-gives p each Enter r x y t m = tt
+    act-gives p each Delete r x y t m = tt
+    act-gives p each Create r x y t m =
+        unless-give _ _
+        (or-give _ _ (must-give (view .mayCreate m x) (at 15 p) (each .mayNot)) (must-give (not (view .full m)) (at 16 p) (each .isFull))) tt
+    act-gives p each Destroy r x y t m = unless-give _ _ (must-give (isSome (view .thing m x)) (at 17 p) (each .isGone)) tt
 
-      operations-give : (types : List ThingType) (ids : List ℕ) (p : ℕ) (os : List Operation) (m : M) →
-          IfRefused P (answer (operateAll view types ids p os m))
-      unfolding operateAll operate answer IfRefused
-      operations-give types ids p [] m = tt
-      operations-give types ids p (o ∷ os) m = then-give _ _ (act-gives p (o .code) _ _ _ _ m) (operations-give types ids (suc p) os)
+    pub operations-give : ((p : ℕ) → EveryOperation P p) → (types : List ThingType) (ids : List ℕ) (p : ℕ) (os : List Operation) (m : M) →
+        IfRefused P (answer (operateAll view types ids p os m))
+    unfolding operateAll operate answer IfRefused
+    operations-give each types ids p [] m = tt
+    operations-give each types ids p (o ∷ os) m = then-give _ _ (act-gives p (each p) (o .code) _ _ _ _ m) (operations-give each types ids (suc p) os)
 
-      command-gives : (m : M) (ids : List ℕ) (o : Option Command) →
-          ((c : Command) → o ≡ some c → (k : ℕ) → FirstFalse view m ids (testsOf (c .tests)) k → P (at 14 k)) → IfRefused P (answer (carryOutIf view m ids o))
+    -- of 14 it is known which test gave it, of a later refusal which operations
+    pub record LaterRefusals (m : M) (ids : List ℕ) (c : Command) : Type 0 where
+      pub test : (k : ℕ) → FirstFalse view m ids (testsOf (c .tests)) k → P (at 14 k)
+      pub operation : IfRefused P (answer (operateAll view (parametersOf (c .parameters)) ids 0 (operationsOf (c .operations)) m))
+
+    module _ (each : EarlyRefusals P) where
+      command-gives : (m : M) (ids : List ℕ) (o : Option Command) → ((c : Command) → o ≡ some c → LaterRefusals m ids c) →
+          IfRefused P (answer (carryOutIf view m ids o))
       unfolding carryOutIf carryOut answer IfRefused
       command-gives m ids none law = each .noCommand
       command-gives m ids (some c) law =
           unless-give _ _
           (or-give _ _ (must-give (eqb (length ids) (length (parametersOf (c .parameters)))) (at 11 0) (each .otherCount))
-          (or-give _ _ (places-give m (operationsOf (c .operations)) 0 (parametersOf (c .parameters)) ids) (tests-give m ids 0 (testsOf (c .tests)) (λ k first. rw zero-add (law c refl k first)))))
-          (operations-give (parametersOf (c .parameters)) ids 0 (operationsOf (c .operations)) m)
+          (or-give _ _ (places-give (each .places) m (operationsOf (c .operations)) 0 (parametersOf (c .parameters)) ids)
+          (tests-give m ids 0 (testsOf (c .tests)) (λ k first. rw zero-add (law c refl .test k first)))))
+          (law c refl .operation)
 
       pub request-gives : (s : Scheme) (m : M) (q : Request) →
-          ((c : Command) → getElem? (commandsOf s) (q .command) ≡ some c → (k : ℕ) → FirstFalse view m (q .ids) (testsOf (c .tests)) k → P (at 14 k)) →
-          IfRefused P (answer (step view s m q))
+          ((c : Command) → getElem? (commandsOf s) (q .command) ≡ some c → LaterRefusals m (q .ids) c) → IfRefused P (answer (step view s m q))
       unfolding step
       request-gives s m q = command-gives m (q .ids) (getElem? (commandsOf s) (q .command))

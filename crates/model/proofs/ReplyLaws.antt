@@ -13,28 +13,31 @@ use Rattle.model.specs.declared.Reply.{Reply}
 
 -- the reply that stands at a position of a buffer
 abbrev pub replyAt : ℕ → List ℕ → Reply
-replyAt at l = record { number = getD l at 0; test = getD l (at + 1) 0 }
+replyAt at l = record { number = getD l at 0; test = getD l (at + 1) 0; steps = getD l (at + 2) 0 }
 
 pub reply-dropped : (at : ℕ) (l : List ℕ) → replyAt 0 (drop at l) ≡ replyAt at l
-reply-dropped at l = rw (getD-drop at l 0 0, getD-drop at l 1 0, add-zero)
+reply-dropped at l = rw (getD-drop at l 0 0, getD-drop at l 1 0, getD-drop at l 2 0, add-zero)
 
 pub replies-first : (l : List ℕ) → replyWidth ≤ length l → repliesIn l ≡ replyAt 0 l ∷ drop 1 (repliesIn l)
 unfolding repliesIn
 replies-first [] h = absurd (omega arith)
 replies-first (k ∷ []) h = absurd (omega arith)
-replies-first (k ∷ p ∷ rest) h = refl
+replies-first (k ∷ p ∷ []) h = absurd (omega arith)
+replies-first (k ∷ p ∷ n ∷ rest) h = refl
 
 pub replies-few : (l : List ℕ) → length l < replyWidth → repliesIn l ≡ []
 unfolding repliesIn
 replies-few [] h = refl
 replies-few (k ∷ []) h = refl
-replies-few (k ∷ p ∷ rest) h = absurd (omega arith)
+replies-few (k ∷ p ∷ []) h = refl
+replies-few (k ∷ p ∷ n ∷ rest) h = absurd (omega arith)
 
 pub replies-behind : (l : List ℕ) → repliesIn (drop replyWidth l) ≡ drop 1 (repliesIn l)
 unfolding repliesIn
 replies-behind [] = refl
 replies-behind (k ∷ []) = refl
-replies-behind (k ∷ p ∷ rest) = refl
+replies-behind (k ∷ p ∷ []) = refl
+replies-behind (k ∷ p ∷ n ∷ rest) = refl
 
 pub replies-back : (r : Reply) (more : List ℕ) → repliesIn (replyBytes r ++ more) ≡ r ∷ repliesIn more
 unfolding repliesIn replyBytes

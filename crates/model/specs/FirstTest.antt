@@ -37,4 +37,4 @@ pub record FirstTest {M : Type 0} (view : View M) : Type 0 where
   -- The first test that doesn't hold is the fault, whatever the tests behind it say.
   pub stops : (m : M) (ids : List ℕ) (ts : List Test) (k : ℕ) → FirstFalse view m ids ts k → testsFault view m ids 0 ts ≡ some (at 14 k)
   -- The reply to a request tells its place.
-  pub tells : (s : Scheme) (m : M) (q : Request) → TellsTest view s m q (replyTo (answer (step view s m q)))
+  pub tells : (s : Scheme) (m : M) (q : Request) → TellsTest view s m q (replyTo s q (answer (step view s m q)))

@@ -2,12 +2,12 @@
 -- Assumes nothing.
 use Prim.Native.Nat.{ℕ}
 use mathlib.Core.Bool.{Bool, true, false, _&&_}
-use mathlib.Core.List.{List, [], _∷_, map}
+use mathlib.Core.List.{List, [], _∷_}
 use lib.Dec.{eqb}
 use lib.ListN.{set, replicate}
 use Rattle.laws.specs.Check.{all, isSome}
 use Rattle.model.specs.Request.{Request, View, run, answers}
-use Rattle.model.specs.Answers.{replyTo, replyBytes}
+use Rattle.model.specs.Answers.{replyEach, replyBytes}
 use Rattle.model.specs.Seats.{Matrix}
 use Rattle.model.specs.Arrays.{test, operation, commandOf, schemeFrom}
 use Rattle.model.specs.declared.Code.the-variants.{Enter, Destroy}
@@ -57,12 +57,12 @@ pub record Claim : Type 0 where
 abbrev pub ask : ℕ → List ℕ → Request
 ask c ids = record { command = c; ids = ids }
 
--- a reply with this number, other than 14; and one with 14, of this test
-abbrev pub says : ℕ → Reply
-says k = record { number = k; test = 255 }
+-- a reply with this number, other than 14, and one with 14, of this test; both with so many steps
+abbrev pub says : ℕ → ℕ → Reply
+says k n = record { number = k; test = 255; steps = n }
 
-abbrev pub stopsAt : ℕ → Reply
-stopsAt p = record { number = 14; test = p }
+abbrev pub stopsAt : ℕ → ℕ → Reply
+stopsAt p n = record { number = 14; test = p; steps = n }
 
 abbrev pub is : ℕ → ℕ → ℕ → Cell
 is x y v = record { row = x; column = y; holds = v }
@@ -87,15 +87,15 @@ module _ {M : Type 0} (view : View M) where
 
   unfoldable pub isTrue : M → Claim → Bool
   isTrue m c =
-      sameReplies (map replyTo (answers view (c .of) m (c .requests))) (c .replies)
+      sameReplies (replyEach (c .of) (c .requests) (answers view (c .of) m (c .requests))) (c .replies)
       && all (cellIs (run view (c .of) m (c .requests))) (c .cells)
       && all (λ x. isSome (view .thing (run view (c .of) m (c .requests)) x)) (c .things)
 
 unfoldable pub starred : List Claim
 starred =
-    record { of = keyScheme; requests = ask 1 (9 ∷ 12 ∷ []) ∷ []; replies = says 0 ∷ []; cells = is 9 12 10 ∷ []; things = [] }
-    ∷ record { of = keyScheme; requests = ask 1 (9 ∷ 12 ∷ []) ∷ ask 0 (5 ∷ 9 ∷ []) ∷ []; replies = says 0 ∷ says 0 ∷ []; cells = is 9 9 4 ∷ []; things = [] }
-    ∷ record { of = keyScheme; requests = ask 1 (9 ∷ 12 ∷ []) ∷ ask 0 (5 ∷ 9 ∷ []) ∷ ask 1 (9 ∷ 12 ∷ []) ∷ []; replies = says 0 ∷ says 0 ∷ stopsAt 1 ∷ []; cells = []; things = [] }
-    ∷ record { of = keyScheme; requests = ask 0 (9 ∷ 9 ∷ []) ∷ ask 0 (5 ∷ 8 ∷ []) ∷ ask 0 (5 ∷ []) ∷ ask 2 [] ∷ []; replies = says 13 ∷ says 12 ∷ says 11 ∷ says 10 ∷ []; cells = is 5 9 1 ∷ is 9 12 2 ∷ []; things = [] }
-    ∷ record { of = twoDestroys; requests = ask 0 (9 ∷ 9 ∷ []) ∷ []; replies = says 17 ∷ []; cells = is 9 12 2 ∷ []; things = 9 ∷ [] }
+    record { of = keyScheme; requests = ask 1 (9 ∷ 12 ∷ []) ∷ []; replies = says 0 3 ∷ []; cells = is 9 12 10 ∷ []; things = [] }
+    ∷ record { of = keyScheme; requests = ask 1 (9 ∷ 12 ∷ []) ∷ ask 0 (5 ∷ 9 ∷ []) ∷ []; replies = says 0 3 ∷ says 0 2 ∷ []; cells = is 9 9 4 ∷ []; things = [] }
+    ∷ record { of = keyScheme; requests = ask 1 (9 ∷ 12 ∷ []) ∷ ask 0 (5 ∷ 9 ∷ []) ∷ ask 1 (9 ∷ 12 ∷ []) ∷ []; replies = says 0 3 ∷ says 0 2 ∷ stopsAt 1 2 ∷ []; cells = []; things = [] }
+    ∷ record { of = keyScheme; requests = ask 0 (9 ∷ 9 ∷ []) ∷ ask 0 (5 ∷ 8 ∷ []) ∷ ask 0 (5 ∷ []) ∷ ask 2 [] ∷ []; replies = says 13 0 ∷ says 12 0 ∷ says 11 0 ∷ says 10 0 ∷ []; cells = is 5 9 1 ∷ is 9 12 2 ∷ []; things = [] }
+    ∷ record { of = twoDestroys; requests = ask 0 (9 ∷ 9 ∷ []) ∷ []; replies = says 17 2 ∷ []; cells = is 9 12 2 ∷ []; things = 9 ∷ [] }
     ∷ []

@@ -80,11 +80,12 @@ pub enum Verdict {
     Refused(Refusal),
 }
 
-// What is told of it: the outline's number, 0 for success; and with 14 the place, from 0, of the test that doesn't hold, with every other number
-// `NO_TEST`.
+// What is told of it: the outline's number, 0 for success; with 14 the place, from 0, of the test that doesn't hold, with every other number
+// `NO_TEST`; and how many tests were evaluated and operations carried out or refused.
 pub struct Reply {
     pub number: u8,
     pub test: u8,
+    pub steps: u8,
 }
 
 // The limits of the outline. `PLACES` is the same number as an array's length, which is of another type.
@@ -123,5 +124,5 @@ impl Reply {
     pub const NO_TEST: u8 = 255;
 
     // How many bytes it takes in a buffer.
-    pub const WIDTH: usize = 2;
+    pub const WIDTH: usize = 3;
 }

@@ -3,17 +3,18 @@
 use Prim.Native.Nat.{ℕ, _+_, _*_, _≤_}
 use native.Mathlib.Omega.{arith}
 use mathlib.Core.Path.{_≡_, refl, sym, ap, _∙_}
-use mathlib.Core.List.{List, [], _∷_, _++_, map, append-assoc}
+use mathlib.Core.List.{List, [], _∷_, _++_, append-assoc}
 use lib.Dec.{T}
 use lib.ListN.{length, take, drop, replicate, length-append, length-take}
 use lib.Seq.{sets}
 use borrow.Author.Tests.{le-leb}
 use Rattle.laws.proofs.Bools.{is-true}
-use Rattle.model.specs.Answers.{replyBytes, replyWidth, replyTo, repliesIn}
-use Rattle.model.specs.Request.{run, answers, Answer}
+use Rattle.model.specs.Answers.{replyEach, replyBytes, replyWidth, repliesIn}
+use Rattle.model.specs.Request.{run, answers}
 use Rattle.model.specs.Seats.{Matrix, matrixOf, noThings, seats}
 use Rattle.model.specs.Accepted.{acceptedScheme, acceptedMatrix}
 use Rattle.model.specs.Arrays.{noScheme}
+use Rattle.model.specs.declared.Reply.{Reply}
 use Rattle.model.specs.declared.Scheme.{Scheme}
 use Rattle.model.specs.declared.Things.{Things}
 use Rattle.records.specs.Bytes.{eachBytes}
@@ -36,6 +37,7 @@ use Rattle.totals.specs.declared.answers.Totals.{Totals}
 use Rattle.totals.specs.declared.answers.Totals.the-variants as totals
 use Rattle.printout.specs.Text.{heading, badLine, requestLines, endingLine, endLine, runText, answersText, input, onMatrix, matrixText, onScheme, playText}
 use Rattle.printout.specs.Inner.Ending.{listText}
+use Rattle.printout.specs.declared.text.Columns.the-variants.{ToTest, ToSteps}
 use Rattle.request_list.proofs.ListLaws.{few-requests}
 use Rattle.printout.proofs.RequestLaws.{few-lines, few-bad, few-ending, lines-more}
 use Rattle.engine.proofs.ListLaws.{replies-stored}
@@ -48,11 +50,11 @@ module _ (s : Scheme) (m : Matrix) (ok : T (acceptedScheme s)) (of : T (accepted
   abbrev after : Matrix
   after = run seats s m (readList bytes .requests)
 
-  abbrev list : List Answer
-  list = answers seats s m (readList bytes .requests)
+  abbrev list : List Reply
+  list = replyEach s (readList bytes .requests) (answers seats s m (readList bytes .requests))
 
   abbrev stored : List ℕ
-  stored = eachBytes (λ (a : Answer). replyBytes (replyTo a)) list
+  stored = eachBytes replyBytes list
 
   abbrev given : Result
   given = record { ran = ran; cells = cells; replies = replies }
@@ -70,24 +72,24 @@ module _ (s : Scheme) (m : Matrix) (ok : T (acceptedScheme s)) (of : T (accepted
   now-is : matrixOf (ran .things) cells ≡ after
   now-is = ap (λ (r : Result). matrixOf (r .ran .things) (r .cells)) carried-out
 
-  lines-are : listText 0 (readList bytes) (repliesIn replies) ≡ listText 0 (readList bytes) (map replyTo list)
+  lines-are : listText ToTest 0 (readList bytes) (repliesIn replies) ≡ listText ToTest 0 (readList bytes) list
   unfolding placed
   lines-are =
       let behind = drop (0 + length stored) buffer in
       let n : replies ≡ stored ++ behind = ap (λ (r : Result). r .replies) carried-out in
-      rw (n, replies-stored list behind, lines-more 0 s m (readList bytes .requests) (repliesIn behind))
+      rw (n, replies-stored list behind, lines-more ToTest 0 s m (readList bytes .requests) (repliesIn behind))
 
-  pub printed : (out : List ℕ) → length out ≤ largest → {p : ℕ} {first : List ℕ} → _≡_ {A = ℕ × List ℕ} (p, first) (putText out 0 heading)
-      → {q : ℕ} {second : List ℕ} → _≡_ {A = ℕ × List ℕ} (q, second) (putText first p (listText 0 (readList bytes) (repliesIn replies)))
+  pub printed : (out : List ℕ) → length out ≤ largest → {p : ℕ} {first : List ℕ} → _≡_ {A = ℕ × List ℕ} (p, first) (putText out 0 (heading ToTest))
+      → {q : ℕ} {second : List ℕ} → _≡_ {A = ℕ × List ℕ} (q, second) (putText first p (listText ToTest 0 (readList bytes) (repliesIn replies)))
       → (t : Totals) → t ≡ totalsOf s (matrixOf (ran .things) cells)
       → {r : ℕ} {third : List ℕ} → _≡_ {A = ℕ × List ℕ} (r, third) (putText second q (endLine t)) → (r, third) ≡ putText out 0 (runText s m (readList bytes))
   unfolding runText
   printed out far a b t f c =
       let l = readList bytes in
-      let parts = append-assoc heading (requestLines 0 (l .requests) (map replyTo list)) (endingLine (l .ending)) in
-      let text : (heading ++ listText 0 l (repliesIn replies)) ++ endLine t ≡ runText s m l =
+      let parts = append-assoc (heading ToTest) (requestLines ToTest 0 (l .requests) list) (endingLine (l .ending)) in
+      let text : (heading ToTest ++ listText ToTest 0 l (repliesIn replies)) ++ endLine t ≡ runText s m l =
       rw (lines-are, f, now-is) (ap (λ (x : List ℕ). x ++ endLine (totalsOf s after)) (sym parts)) in
-      c ∙ put-then out 0 _ (b ∙ put-then out 0 heading a far _) far _ ∙ ap (putText out 0) text
+      c ∙ put-then out 0 _ (b ∙ put-then out 0 (heading ToTest) a far _) far _ ∙ ap (putText out 0) text
 
 -- ---- how long the text is at most
 
@@ -99,7 +101,7 @@ few-run : (s : Scheme) (m : Matrix) (requests : List ℕ) → length requests �
 unfolding runText heading
 few-run s m requests h =
     let l = readList requests in
-    let lines = few-lines 0 (l .requests) (map replyTo (answers seats s m (l .requests))) in
+    let lines = few-lines ToTest 0 (l .requests) (replyEach s (l .requests) (answers seats s m (l .requests))) in
     let ends = few-end (totalsOf s (run seats s m (l .requests))) in
     simp length-append (omega (arith, few-requests requests, few-ending (l .ending)))
 
@@ -128,18 +130,18 @@ unfolding answersText heading input
 few-answers requests stored =
     let front = take 65536 requests in
     let l = readList front in
-    simp length-append (omega (arith, few-lines 0 (l .requests) (repliesIn stored), few-requests front, few-ending (l .ending), length-take 65536 requests))
+    simp length-append (omega (arith, few-lines ToSteps 0 (l .requests) (repliesIn stored), few-requests front, few-ending (l .ending), length-take 65536 requests))
 
 pub answers-printed : (requests stored front : List ℕ) → front ≡ input requests → (out : List ℕ) → length out ≤ largest
-    → {p : ℕ} {first : List ℕ} → _≡_ {A = ℕ × List ℕ} (p, first) (putText out 0 heading)
-    → {q : ℕ} {second : List ℕ} → _≡_ {A = ℕ × List ℕ} (q, second) (putText first p (listText 0 (readList front) (repliesIn stored)))
+    → {p : ℕ} {first : List ℕ} → _≡_ {A = ℕ × List ℕ} (p, first) (putText out 0 (heading ToSteps))
+    → {q : ℕ} {second : List ℕ} → _≡_ {A = ℕ × List ℕ} (q, second) (putText first p (listText ToSteps 0 (readList front) (repliesIn stored)))
     → _≡_ {A = ℕ × List ℕ} (q, second) (length (answersText requests stored), sets out 0 (answersText requests stored))
 unfolding answersText
 answers-printed requests stored front is out far a b =
     let l = readList (input requests) in
-    let text : heading ++ listText 0 (readList front) (repliesIn stored) ≡ answersText requests stored =
-    rw is (sym (append-assoc heading (requestLines 0 (l .requests) (repliesIn stored)) (endingLine (l .ending)))) in
-    b ∙ put-then out 0 heading a far _ ∙ ap (putText out 0) text ∙ from-start out _ (few-answers requests stored)
+    let text : heading ToSteps ++ listText ToSteps 0 (readList front) (repliesIn stored) ≡ answersText requests stored =
+    rw is (sym (append-assoc (heading ToSteps) (requestLines ToSteps 0 (l .requests) (repliesIn stored)) (endingLine (l .ending)))) in
+    b ∙ put-then out 0 (heading ToSteps) a far _ ∙ ap (putText out 0) text ∙ from-start out _ (few-answers requests stored)
 
 -- ---- a matrix and a scheme that were read, or weren't
 

@@ -1,10 +1,10 @@
--- The outline, "The program play": the whole text, as ASCII codes. A heading, a line per request (position, command, result), and at the end
--- things, cells that aren't empty, entries; and the same without the end, for `run`. Assumes nothing.
+-- The outline, "The program play": the whole text, as ASCII codes. A heading, a line per request (position, command, result, test), and at the end
+-- things, cells that aren't empty, entries; and the same with a column more, the steps, and without the end, for `run`. Assumes nothing.
 use Prim.Native.Nat.{ℕ, suc}
-use mathlib.Core.List.{List, [], _∷_, _++_, map}
+use mathlib.Core.List.{List, [], _∷_, _++_}
 use lib.ListN.{take, replicate}
 use Rattle.lines.specs.Lines.{line}
-use Rattle.model.specs.Answers.{replyTo, repliesIn}
+use Rattle.model.specs.Answers.{replyEach, repliesIn}
 use Rattle.model.specs.Request.{Request, run, answers}
 use Rattle.model.specs.Seats.{Matrix, matrixOf, noThings, seats}
 use Rattle.model.specs.declared.Reply.{Reply}
@@ -19,14 +19,19 @@ use Rattle.totals.specs.Totals.{totalsOf}
 use Rattle.totals.specs.declared.answers.Totals.{Totals}
 use Rattle.totals.specs.declared.answers.Totals.the-variants as totals
 use Rattle.model.specs.Arrays.{noScheme}
+use Rattle.printout.specs.declared.text.Columns.{Columns}
+use Rattle.printout.specs.declared.text.Columns.the-variants.{ToTest, ToSteps}
 
 -- ---- the lines with words
 
--- "request command result test"
-unfoldable pub heading : List ℕ
-heading =
+-- "request command result test", and "request command result test steps"
+unfoldable pub heading : Columns → List ℕ
+heading ToTest =
     114 ∷ 101 ∷ 113 ∷ 117 ∷ 101 ∷ 115 ∷ 116 ∷ 32 ∷ 99 ∷ 111 ∷ 109 ∷ 109 ∷ 97 ∷ 110 ∷ 100 ∷ 32 ∷ 114 ∷ 101 ∷ 115 ∷ 117 ∷ 108 ∷ 116 ∷ 32
     ∷ 116 ∷ 101 ∷ 115 ∷ 116 ∷ 10 ∷ []
+heading ToSteps =
+    114 ∷ 101 ∷ 113 ∷ 117 ∷ 101 ∷ 115 ∷ 116 ∷ 32 ∷ 99 ∷ 111 ∷ 109 ∷ 109 ∷ 97 ∷ 110 ∷ 100 ∷ 32 ∷ 114 ∷ 101 ∷ 115 ∷ 117 ∷ 108 ∷ 116 ∷ 32
+    ∷ 116 ∷ 101 ∷ 115 ∷ 116 ∷ 32 ∷ 115 ∷ 116 ∷ 101 ∷ 112 ∷ 115 ∷ 10 ∷ []
 
 -- "bad", the record's position and the refusal's number
 unfoldable pub badLine : ℕ → ℕ → List ℕ
@@ -39,15 +44,16 @@ endLine (totals.Refused k) = badLine 0 k
 
 -- ---- requests
 
--- a request's place in the list, its command, its result, and its test's place
-abbrev pub requestLine : ℕ → ℕ → Reply → List ℕ
-requestLine k command r = line (k ∷ command ∷ r .number ∷ r .test ∷ [])
+-- a request's place in the list, its command, its result, its test's place, and its steps
+abbrev pub requestLine : Columns → ℕ → ℕ → Reply → List ℕ
+requestLine ToTest k command r = line (k ∷ command ∷ r .number ∷ r .test ∷ [])
+requestLine ToSteps k command r = line (k ∷ command ∷ r .number ∷ r .test ∷ r .steps ∷ [])
 
 -- of each request that has a reply; k is the first one's place
-unfoldable pub requestLines : ℕ → List Request → List Reply → List ℕ
-requestLines k [] rs = []
-requestLines k (q ∷ qs) [] = []
-requestLines k (q ∷ qs) (r ∷ rs) = requestLine k (q .command) r ++ requestLines (suc k) qs rs
+unfoldable pub requestLines : Columns → ℕ → List Request → List Reply → List ℕ
+requestLines columns k [] rs = []
+requestLines columns k (q ∷ qs) [] = []
+requestLines columns k (q ∷ qs) (r ∷ rs) = requestLine columns k (q .command) r ++ requestLines columns (suc k) qs rs
 
 -- a record that can't be read ends the list
 abbrev pub endingLine : Reading → List ℕ
@@ -56,7 +62,7 @@ endingLine (Refused k at) = badLine at k
 
 unfoldable pub runText : Scheme → Matrix → Listed → List ℕ
 runText s m l =
-    heading ++ requestLines 0 (l .requests) (map replyTo (answers seats s m (l .requests))) ++ endingLine (l .ending)
+    heading ToTest ++ requestLines ToTest 0 (l .requests) (replyEach s (l .requests) (answers seats s m (l .requests))) ++ endingLine (l .ending)
     ++ endLine (totalsOf s (run seats s m (l .requests)))
 
 -- ---- the files: of a longer one only the first 65,536 bytes are the input
@@ -67,7 +73,7 @@ input bytes = take 65536 bytes
 unfoldable pub answersText : List ℕ → List ℕ → List ℕ
 answersText requests replies =
     let l = readList (input requests) in
-    heading ++ requestLines 0 (l .requests) (repliesIn replies) ++ endingLine (l .ending)
+    heading ToSteps ++ requestLines ToSteps 0 (l .requests) (repliesIn replies) ++ endingLine (l .ending)
 
 abbrev pub onMatrix : Scheme → List ℕ → MatrixAnswer × List ℕ → Reading → List ℕ
 onMatrix s requests m (Done next) = runText s (matrixOf (m .0 .things) (m .1)) (readList requests)

@@ -1,4 +1,5 @@
 // The printout of a scheme, a matrix and a list of requests.
+use crate::text::Columns;
 use crate::text::put_bad;
 use crate::text::put_end;
 use crate::text::put_heading;
@@ -41,21 +42,34 @@ fn put_ending(out: &mut [u8], to: usize, answer: RequestReading) -> usize
 }
 
 // The line of request n, where there is a reply to it.
-fn put_answer(out: &mut [u8], at: usize, n: usize, command: u8, replies: &[u8]) -> usize
-    ensures { λ r. ⌜ _≡_ {A = ℕ × List ℕ} (r, now (out .exit)) (putText (now (out .entry)) at (answerLine n command (repliesFrom n (now (replies .entry))))) ⌝ }
+fn put_answer(
+    out: &mut [u8],
+    at: usize,
+    columns: Columns,
+    n: usize,
+    command: u8,
+    replies: &[u8],
+) -> usize
+    ensures { λ r. ⌜ _≡_ {A = ℕ × List ℕ} (r, now (out .exit)) (putText (now (out .entry)) at (answerLine columns n command (repliesFrom n (now (replies .entry))))) ⌝ }
 {
     if n < replies.len() / Reply::WIDTH {
         let i = n * Reply::WIDTH;
         let number = replies[i];
         let test = replies[i + 1];
-        return put_request(out, at, n, command, Reply { number, test });
+        let steps = replies[i + 2];
+        let reply = Reply {
+            number,
+            test,
+            steps,
+        };
+        return put_request(out, at, columns, n, command, reply);
     }
     at
 }
 
 // A line for each request of a list, with its reply, and one for a record that can't be read.
-fn put_requests(out: &mut [u8], at: usize, bytes: &[u8], replies: &[u8]) -> usize
-    ensures { λ r. ⌜ _≡_ {A = ℕ × List ℕ} (r, now (out .exit)) (putText (now (out .entry)) at (listText 0 (readList (now (bytes .entry))) (repliesIn (now (replies .entry))))) ⌝ }
+fn put_requests(out: &mut [u8], at: usize, columns: Columns, bytes: &[u8], replies: &[u8]) -> usize
+    ensures { λ r. ⌜ _≡_ {A = ℕ × List ℕ} (r, now (out .exit)) (putText (now (out .entry)) at (listText columns 0 (readList (now (bytes .entry))) (repliesIn (now (replies .entry))))) ⌝ }
 {
     let mut n: usize = 0;
     let mut p: usize = 0;
@@ -67,7 +81,7 @@ fn put_requests(out: &mut [u8], at: usize, bytes: &[u8], replies: &[u8]) -> usiz
         let RequestReading::Done { next } = answer else {
             return put_ending(out, to, answer);
         };
-        to = put_answer(out, to, n, q.command, replies);
+        to = put_answer(out, to, columns, n, q.command, replies);
         n += 1;
         p = next;
     }
@@ -82,8 +96,8 @@ fn put_run(s: Scheme, th: Things, cells: &mut [u64], requests: &[u8], out: &mut 
     let mut replies = [0u8; 65536 * Reply::WIDTH];
     let ran = engine::run_list(s, th, cells, requests, &mut replies);
     let things = ran.things;
-    let heading = put_heading(out);
-    let lines = put_requests(out, heading, requests, &replies);
+    let heading = put_heading(out, Columns::ToTest);
+    let lines = put_requests(out, heading, Columns::ToTest, requests, &replies);
     put_end(out, lines, totals::totals(s, things, cells))
 }
 
@@ -114,10 +128,10 @@ pub fn printout(scheme: &[u8], matrix: &[u8], requests: &[u8], out: &mut [u8]) -
     put_matrix(s, input(matrix), input(requests), out)
 }
 
-// The same lines for replies that were stored before: the heading and the requests, as far as there are replies to them.
+// The same lines with the steps, for replies that were stored before: the heading and the requests, as far as there are replies to them.
 pub fn answers_text(requests: &[u8], replies: &[u8], out: &mut [u8]) -> usize
     ensures { λ r. ⌜ _≡_ {A = ℕ × List ℕ} (r, now (out .exit)) (length (answersText (now (requests .entry)) (now (replies .entry))), sets (now (out .entry)) 0 (answersText (now (requests .entry)) (now (replies .entry)))) ⌝ }
 {
-    let heading = put_heading(out);
-    put_requests(out, heading, input(requests), replies)
+    let heading = put_heading(out, Columns::ToSteps);
+    put_requests(out, heading, Columns::ToSteps, input(requests), replies)
 }

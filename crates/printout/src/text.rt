@@ -7,10 +7,19 @@ ghost use mathlib.Core.List.{List};
 ghost use Rattle.lines.specs.Put.{putText};
 ghost use Rattle.printout.specs.Text.{heading, badLine, requestLine, endLine};
 
-pub(crate) fn put_heading(out: &mut [u8]) -> usize
-    ensures { λ r. ⌜ _≡_ {A = ℕ × List ℕ} (r, now (out .exit)) (putText (now (out .entry)) 0 heading) ⌝ }
+// How far a request's line goes: `play` prints up to the test's place, `run` the steps too.
+pub enum Columns {
+    ToTest,
+    ToSteps,
+}
+
+pub(crate) fn put_heading(out: &mut [u8], columns: Columns) -> usize
+    ensures { λ r. ⌜ _≡_ {A = ℕ × List ℕ} (r, now (out .exit)) (putText (now (out .entry)) 0 (heading columns)) ⌝ }
 {
-    lines::put_text(out, 0, b"request command result test\n")
+    match columns {
+        Columns::ToTest => lines::put_text(out, 0, b"request command result test\n"),
+        Columns::ToSteps => lines::put_text(out, 0, b"request command result test steps\n"),
+    }
 }
 
 pub(crate) fn put_bad(out: &mut [u8], at: usize, position: usize, number: u8) -> usize
@@ -20,26 +29,28 @@ pub(crate) fn put_bad(out: &mut [u8], at: usize, position: usize, number: u8) ->
     lines::put_line(out, p, &[position as u64, number as u64])
 }
 
-// A request's place in its list, its command, its result, and its test's place.
+// A request's place in its list, its command, its result, its test's place, and its steps.
 pub(crate) fn put_request(
     out: &mut [u8],
     at: usize,
+    columns: Columns,
     place: usize,
     command: u8,
     reply: Reply,
 ) -> usize
-    ensures { λ r. ⌜ _≡_ {A = ℕ × List ℕ} (r, now (out .exit)) (putText (now (out .entry)) at (requestLine place command reply)) ⌝ }
+    ensures { λ r. ⌜ _≡_ {A = ℕ × List ℕ} (r, now (out .exit)) (putText (now (out .entry)) at (requestLine columns place command reply)) ⌝ }
 {
-    lines::put_line(
-        out,
-        at,
-        &[
-            place as u64,
-            command as u64,
-            reply.number as u64,
-            reply.test as u64,
-        ],
-    )
+    let line = [
+        place as u64,
+        command as u64,
+        reply.number as u64,
+        reply.test as u64,
+        reply.steps as u64,
+    ];
+    match columns {
+        Columns::ToTest => lines::put_line(out, at, &line[..4]),
+        Columns::ToSteps => lines::put_line(out, at, &line),
+    }
 }
 
 fn put_counted(out: &mut [u8], at: usize, things: u32, cells: u32, entries: u32) -> usize

@@ -37,7 +37,7 @@ impl Run {
 }
 
 /// The version of the interface that this wrapper was written for.
-pub const VERSION: u32 = 3;
+pub const VERSION: u32 = 4;
 
 /// The version that the linked archive has: another one than `VERSION` means that the two don't belong together.
 pub fn version() -> u32 {

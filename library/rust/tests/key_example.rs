@@ -52,26 +52,35 @@ fn office_and_robot_answer_alike() {
     let (mut answers, mut after) = ([99; 3 * ANSWER_BYTES], [0; 123]);
     let office = run(&SCHEME, &MATRIX, &requests(), &mut answers, &mut after).unwrap();
     assert_eq!((office.answers, office.written), (3, 75));
-    assert_eq!(answers, [0, 255, 0, 255, 14, 1]);
+    assert_eq!(answers, [0, 255, 3, 0, 255, 2, 14, 1, 2]);
 
     let mut answers = [99; 3 * ANSWER_BYTES];
     let robot = run(&scheme, &matrix, &requests(), &mut answers, &mut after).unwrap();
     assert_eq!((robot.answers, robot.written), (3, 123));
-    assert_eq!(answers, [0, 255, 0, 255, 14, 1]);
+    // but for the steps: as many tests, and twice the operations
+    assert_eq!(answers, [0, 255, 4, 0, 255, 3, 14, 1, 2]);
 }
 
 #[test]
-fn a_stopped_request_says_which_test() {
-    // one answer's room more than there are requests, and an odd byte
-    let (mut answers, mut after) = ([99; 4 * ANSWER_BYTES + 1], [0; 123]);
+fn answers_are_read_with_test_and_steps() {
+    // one answer's room more than there are requests, and two odd bytes
+    let (mut answers, mut after) = ([99; 4 * ANSWER_BYTES + 2], [0; 123]);
     let ran = run(&SCHEME, &MATRIX, &requests(), &mut answers, &mut after).unwrap();
-    assert_eq!(answers[3 * ANSWER_BYTES..], [99; ANSWER_BYTES + 1]);
-    let (done, by_test) = (answer(0, None), answer(14, Some(1)));
-    assert!(ran.stored(&answers).eq([done, done, by_test]));
+    assert_eq!(answers[3 * ANSWER_BYTES..], [99; ANSWER_BYTES + 2]);
+    let stored = [
+        answer(0, None, 3),
+        answer(0, None, 2),
+        answer(14, Some(1), 2),
+    ];
+    assert!(ran.stored(&answers).eq(stored));
 }
 
-fn answer(number: u8, test: Option<u8>) -> Answer {
-    Answer { number, test }
+fn answer(number: u8, test: Option<u8>, steps: u8) -> Answer {
+    Answer {
+        number,
+        test,
+        steps,
+    }
 }
 
 #[test]
@@ -79,7 +88,10 @@ fn a_list_may_end_with_a_bad_record() {
     let (mut answers, mut after) = ([99; 3 * ANSWER_BYTES], [0; 123]);
     let list = &requests()[..25];
     let ran = run(&SCHEME, &MATRIX, list, &mut answers, &mut after).unwrap();
-    assert_eq!((ran.answers, answers), (2, [0, 255, 0, 255, 99, 99]));
+    assert_eq!(
+        (ran.answers, answers),
+        (2, [0, 255, 3, 0, 255, 2, 99, 99, 99])
+    );
     assert_eq!(ran.ended_by, Some(refusal(1, Place::Requests, 20)));
 }
 

@@ -20,7 +20,7 @@ pub fn stored(at: usize, bytes: &[u8]) -> Buffer {
     let Some(last) = last else {
         return UNTOUCHED;
     };
-    let before = (0..start).fold(EMPTY, |from, k| step(from, pattern(k)));
+    let before = (0..start).fold(EMPTY, |from, k| add(from, pattern(k)));
     Buffer {
         end: (start + last + 1) as u64,
         hash: hash(before, &bytes[..=last]),
@@ -43,9 +43,9 @@ fn pattern(at: usize) -> u8 {
 
 /// FNV-1a, 64 bits.
 fn hash(from: u64, bytes: &[u8]) -> u64 {
-    bytes.iter().fold(from, |from, &byte| step(from, byte))
+    bytes.iter().fold(from, |from, &byte| add(from, byte))
 }
 
-fn step(from: u64, byte: u8) -> u64 {
+fn add(from: u64, byte: u8) -> u64 {
     (from ^ u64::from(byte)).wrapping_mul(0x100_0000_01b3)
 }

@@ -3,7 +3,7 @@
 use std::collections::BTreeMap;
 use std::fmt;
 
-use independent::answer::Answer;
+use independent::answer::{Answer, MOST_STEPS};
 use independent::refusal::{Fault, Found};
 use independent::scheme::MOST_TESTS;
 
@@ -23,6 +23,8 @@ pub struct Counts {
     answers: BTreeMap<u64, u64>,
     /// Requests that were answered 14, by the test's place.
     stops: BTreeMap<u8, u64>,
+    /// All requests, by their steps.
+    steps: BTreeMap<u8, u64>,
     faults: BTreeMap<Fault, u64>,
 }
 
@@ -37,6 +39,7 @@ impl Counts {
 
     pub fn answer(&mut self, answer: Answer) {
         *self.answers.entry(u64::from(answer.number)).or_default() += 1;
+        *self.steps.entry(answer.steps).or_default() += 1;
         if answer.number == 14 {
             *self.stops.entry(answer.test).or_default() += 1;
         }
@@ -74,6 +77,10 @@ impl fmt::Display for Counts {
         for test in 0..MOST_TESTS {
             let stops = self.stops.get(&test).unwrap_or(&0);
             writeln!(f, "{stops} requests were stopped by test {test}")?;
+        }
+        for steps in 0..=MOST_STEPS {
+            let requests = self.steps.get(&steps).unwrap_or(&0);
+            writeln!(f, "{requests} requests took {steps} steps")?;
         }
         for fault in Fault::ALL {
             let count = self.faults.get(fault).unwrap_or(&0);

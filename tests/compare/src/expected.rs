@@ -51,7 +51,11 @@ impl Refused {
     }
 
     fn told(self, call: Call, lent: usize) -> Told {
-        Told::new(call, self.number, report([self.place, self.at, 0, 0, 0], lent))
+        Told::new(
+            call,
+            self.number,
+            report([self.place, self.at, 0, 0, 0], lent),
+        )
     }
 }
 

@@ -8,12 +8,12 @@ use independent::request::find_request;
 use independent::scheme::Scheme;
 
 /// So many requests of a list the driver also carries out one by one.
-pub const STEPS: usize = 60;
+pub const ONE_BY_ONE: usize = 60;
 
 pub struct Carried {
     pub answers: Vec<Answer>,
     /// The matrix's bytes after each of the first requests.
-    pub steps: Vec<Vec<u8>>,
+    pub after_each: Vec<Vec<u8>>,
     /// The matrix after them.
     pub matrix: Matrix,
     /// The matrix's bytes after the whole list.
@@ -28,7 +28,7 @@ pub fn carry(scheme: &Scheme, matrix: &Matrix, list: &[u8]) -> Carried {
     let mut matrix = matrix.clone();
     let mut carried = Carried {
         answers: Vec::new(),
-        steps: Vec::new(),
+        after_each: Vec::new(),
         matrix: matrix.clone(),
         bytes: Vec::new(),
         ending: None,
@@ -40,8 +40,8 @@ pub fn carry(scheme: &Scheme, matrix: &Matrix, list: &[u8]) -> Carried {
             Ok(Some((request, next))) => {
                 let answer = carry_out(scheme, &mut matrix, request.command as usize, &request.ids);
                 carried.answers.push(answer);
-                if carried.steps.len() < STEPS {
-                    carried.steps.push(write_matrix(&matrix, scheme));
+                if carried.after_each.len() < ONE_BY_ONE {
+                    carried.after_each.push(write_matrix(&matrix, scheme));
                     carried.matrix.clone_from(&matrix);
                 }
                 at = next;

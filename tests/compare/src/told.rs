@@ -21,7 +21,7 @@ pub enum Call {
         answers: usize,
         out: usize,
     },
-    RunStep {
+    RunAlone {
         request: usize,
     },
     RunDirect {
@@ -43,7 +43,7 @@ impl Call {
             Call::CheckMatrix => 2,
             Call::ConvertScheme { .. } => 3,
             Call::ConvertMatrix { .. } => 4,
-            Call::RunList { .. } | Call::RunStep { .. } | Call::RunDirect { .. } => 5,
+            Call::RunList { .. } | Call::RunAlone { .. } | Call::RunDirect { .. } => 5,
             Call::WriteRequest { .. } => 6,
             Call::Inputs => 7,
         }
@@ -63,7 +63,7 @@ impl fmt::Display for Call {
                 f,
                 "running the list, with {answers} bytes for the answers and {out} for the matrix"
             ),
-            Call::RunStep { request } => {
+            Call::RunAlone { request } => {
                 write!(f, "running request {request} of the list by itself")
             }
             Call::RunDirect { request } => write!(f, "running the direct request {request}"),

@@ -12,6 +12,7 @@ mod fields;
 mod forms;
 mod largest;
 mod lines;
+mod lists;
 mod matrices;
 mod parts;
 mod planned;
@@ -21,6 +22,7 @@ mod said;
 mod schemes;
 mod seats;
 mod sets;
+mod steps;
 mod strangers;
 mod sums;
 mod tasks;
@@ -50,6 +52,8 @@ pub fn cases() -> Vec<Case> {
         largest::cases(),
         conversions::cases(),
         carrying_out::cases(),
+        lists::cases(),
+        steps::cases(),
         strangers::cases(),
         fields::cases(),
         commands::cases(),

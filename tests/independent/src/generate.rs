@@ -3,9 +3,11 @@
 pub mod damage;
 pub mod fields;
 pub mod matrices;
+mod places;
 pub mod random;
 pub mod requests;
 pub mod schemes;
+pub mod steps;
 pub mod stops;
 
 use crate::matrix::{read_matrix, write_matrix};
@@ -25,8 +27,8 @@ pub struct Case {
     pub room: usize,
 }
 
-/// In one of so many cases the requests of `stops` come first.
-const STOPS: usize = 8;
+/// In one of so many cases the requests of `stops` come first, and in another those of `steps`.
+const TURNS: usize = 8;
 
 /// The case of a seed and a number; it doesn't depend on the cases before it.
 pub fn case(seed: u64, number: u64) -> Case {
@@ -35,9 +37,10 @@ pub fn case(seed: u64, number: u64) -> Case {
     let mut matrix = matrices::matrix(random, &scheme);
     // From a source of its own, so that all other cases are what they would be without it.
     let apart = &mut Random::new(!seed, number);
-    let first = match apart.chance(1, STOPS) {
-        true => stops::stops(apart, &mut scheme, &matrix),
-        false => Vec::new(),
+    let first = match apart.below(TURNS) {
+        0 => stops::stops(apart, &mut scheme, &matrix),
+        1 => steps::steps(apart, &mut scheme, &mut matrix),
+        _ => Vec::new(),
     };
     let mut case = Case {
         scheme: write_scheme(&scheme),

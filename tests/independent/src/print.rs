@@ -1,8 +1,7 @@
 //! The text that `play` prints for three inputs, and short listings of what was read for people.
 
-use std::fmt::Write;
+use std::fmt::{Display, Write};
 
-use crate::answer::Answer;
 use crate::engine::carry_out;
 use crate::matrix::{read_matrix, Matrix};
 use crate::refusal::Refusal;
@@ -23,20 +22,42 @@ pub fn play(scheme: &[u8], matrix: &[u8], requests: &[u8]) -> String {
         Err(refusal) => return bad(refusal),
     };
 
-    answers(&scheme, &mut matrix, requests).0 + &end(&matrix)
+    answers(&scheme, &mut matrix, requests, Columns::UpToTest).0 + &end(&matrix)
+}
+
+/// How far a line goes: those of `play` end with the test, those of the tool `run` with the steps.
+#[derive(Clone, Copy, Debug, PartialEq, Eq)]
+pub enum Columns {
+    UpToTest,
+    UpToSteps,
+}
+
+impl Columns {
+    fn end(self, steps: impl Display) -> String {
+        match self {
+            Columns::UpToTest => "\n".to_string(),
+            Columns::UpToSteps => format!(" {steps}\n"),
+        }
+    }
 }
 
 /// The heading and a line for each request, carried out in turn; a record that can't be read ends them with `bad`, which is told beside the text.
-pub fn answers(scheme: &Scheme, matrix: &mut Matrix, requests: &[u8]) -> (String, bool) {
-    let mut text = String::from("request command result test\n");
+pub fn answers(
+    scheme: &Scheme,
+    matrix: &mut Matrix,
+    requests: &[u8],
+    columns: Columns,
+) -> (String, bool) {
+    let mut text = String::from("request command result test") + &columns.end("steps");
     let mut at = 0;
     for position in 0.. {
         match read_request(requests, at) {
             Next::Request { request, next } => {
                 let command = request.command;
-                let Answer { number, test } =
-                    carry_out(scheme, matrix, command as usize, &request.ids);
-                text += &format!("{position} {command} {number} {test}\n");
+                let answer = carry_out(scheme, matrix, command as usize, &request.ids);
+                let (number, test) = (answer.number, answer.test);
+                text += &format!("{position} {command} {number} {test}");
+                text += &columns.end(answer.steps);
                 at = next;
             }
             Next::End => break,

@@ -1,9 +1,12 @@
-//! Counts how often each refusal comes up over generated cases, and which tests stop requests, so that it shows what a comparison covers.
+//! Counts how often each refusal comes up over generated cases, and what ends requests, so that it shows what a comparison covers.
+
+mod answers;
+
+pub use answers::{Answers, Stands};
 
 use std::collections::BTreeMap;
 use std::fmt;
 
-use crate::answer::Answer;
 use crate::bytes::store;
 use crate::convert::{convert_matrix, convert_scheme};
 use crate::engine::carry_out;
@@ -12,7 +15,7 @@ use crate::matrix::{find_matrix, write_matrix, Matrix};
 use crate::print::MOST_INPUT;
 use crate::refusal::{Fault, Found};
 use crate::request::{find_request, write_request};
-use crate::scheme::{find_scheme, write_scheme, Scheme, MOST_TESTS};
+use crate::scheme::{find_scheme, write_scheme, Scheme};
 
 /// What was asked: each a column of the table.
 #[derive(Clone, Copy, Debug, PartialEq, Eq, PartialOrd, Ord)]
@@ -38,8 +41,7 @@ const COLUMNS: [(Asked, &str); 6] = [
 pub struct Statistics {
     pub numbers: BTreeMap<(u8, Asked), u64>,
     pub faults: BTreeMap<Fault, u64>,
-    /// Requests that were answered 14, by the test's place.
-    pub stops: BTreeMap<u8, u64>,
+    pub answers: Answers,
 }
 
 impl Statistics {
@@ -57,10 +59,6 @@ impl Statistics {
 
     pub fn fault(&self, fault: Fault) -> u64 {
         self.faults.get(&fault).copied().unwrap_or(0)
-    }
-
-    pub fn stopped_by(&self, test: u8) -> u64 {
-        self.stops.get(&test).copied().unwrap_or(0)
     }
 
     pub fn add(&mut self, case: &Case) {
@@ -81,21 +79,19 @@ impl Statistics {
             let Some(Some((request, next))) = self.reading(Asked::RequestRecord, found) else {
                 break;
             };
-            let answer = carry_out(&scheme, &mut matrix, request.command as usize, &request.ids);
-            self.answer(answer);
+            self.request(&scheme, &mut matrix, request.command, &request.ids);
             at = next;
         }
         for (command, ids) in &case.direct {
-            let answer = carry_out(&scheme, &mut matrix, *command as usize, ids);
-            self.answer(answer);
+            self.request(&scheme, &mut matrix, *command, ids);
         }
     }
 
-    fn answer(&mut self, answer: Answer) {
+    fn request(&mut self, scheme: &Scheme, matrix: &mut Matrix, command: u8, ids: &[u16]) {
+        let command = usize::from(command);
+        let answer = carry_out(scheme, matrix, command, ids);
         self.note(Asked::Request, answer.number);
-        if answer.number == 14 {
-            *self.stops.entry(answer.test).or_default() += 1;
-        }
+        self.answers.add(answer, scheme.commands.get(command));
     }
 
     /// Scheme and matrix by a call each, then 9 for a buffer that is too short.
@@ -161,11 +157,8 @@ impl fmt::Display for Statistics {
                 writeln!(out)?;
             }
         }
-        writeln!(out, "\n  test    stopped")?;
-        for test in 0..MOST_TESTS {
-            writeln!(out, "{test:>6} {:>10}", self.stopped_by(test))?;
-        }
-        writeln!(out, "\nnumber      count fault")?;
+        writeln!(out, "\n{}", self.answers)?;
+        writeln!(out, "number      count fault")?;
         for fault in Fault::ALL {
             writeln!(
                 out,

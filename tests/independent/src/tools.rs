@@ -4,7 +4,7 @@ use std::collections::BTreeMap;
 
 use crate::convert::{check, convert_matrix, convert_scheme};
 use crate::matrix::{read_matrix, write_matrix, Matrix};
-use crate::print::{answers, MOST_INPUT};
+use crate::print::{answers, Columns, MOST_INPUT};
 use crate::refusal::Refusal;
 use crate::scheme::{read_scheme, write_scheme, Scheme};
 
@@ -98,7 +98,7 @@ impl AtWork<'_> {
         let (scheme, matrix) = (self.load(files[0])?, self.load(files[1])?);
         let requests = self.load(files[2])?;
         let (scheme, mut matrix) = self.read_both(files, &scheme, &matrix)?;
-        let (text, is_bad) = answers(&scheme, &mut matrix, &requests);
+        let (text, is_bad) = answers(&scheme, &mut matrix, &requests, Columns::UpToSteps);
         *self.said += &text;
         self.write(files[3], write_matrix(&matrix, &scheme));
         if is_bad {

@@ -1,10 +1,11 @@
-//! The generator reaches every refusal number, each fault by name and each test's place, and gives the same cases for the same seed.
+//! The generator reaches every refusal number, each fault by name, each test's place and each number of steps; a seed gives the same cases always.
 
+use independent::answer::MOST_STEPS;
 use independent::generate::{case, random::Random, schemes};
 use independent::print::MOST_INPUT;
 use independent::refusal::Fault;
 use independent::scheme::{Operation, Scheme, MOST_TESTS};
-use independent::statistics::{Asked, Statistics};
+use independent::statistics::{Asked, Stands, Statistics};
 
 const SEED: u64 = 1;
 const COUNT: u64 = 10_000;
@@ -33,8 +34,32 @@ fn every_number_and_every_fault_is_reached() {
             fault.words()
         );
     }
+    requests_end_everywhere(&statistics);
+}
+
+/// At each test, after each number of steps and no other, and at each operation that can be faulty, behind tests and behind none.
+fn requests_end_everywhere(statistics: &Statistics) {
+    let answers = &statistics.answers;
     for test in 0..MOST_TESTS {
-        assert!(statistics.stopped_by(test) > 0, "test {test}\n{statistics}");
+        assert!(answers.stopped_by(test) > 0, "test {test}\n{statistics}");
+    }
+    for steps in 0..=MOST_STEPS {
+        assert!(answers.took(steps) > 0, "{steps} steps\n{statistics}");
+    }
+    let counted: u64 = (0..=MOST_STEPS).map(|steps| answers.took(steps)).sum();
+    let numbers = statistics.numbers.iter();
+    let requests = numbers.filter(|((_, asked), _)| *asked == Asked::Request);
+    assert_eq!(counted, requests.map(|(_, count)| count).sum());
+
+    for number in 15..=17 {
+        for stands in [Stands::First, Stands::Between, Stands::Last] {
+            // Before the first operation nothing is gone.
+            let can_be = (number, stands) != (17, Stands::First);
+            for has_tests in [false, true] {
+                let is_met = answers.faulty(number, stands, has_tests) > 0;
+                assert_eq!(is_met, can_be, "{number} {stands:?}\n{statistics}");
+            }
+        }
     }
 }
 

@@ -42,36 +42,81 @@ fn each_label_stands_once() {
         .all(|label| !label.contains(char::is_whitespace)));
 }
 
-/// Some labels and the words behind them, worked out by hand: the number and which test stopped the request.
-const STOPS: &[(&str, &str)] = &[
-    ("key-load", "0 255"),
-    ("key-load-after", "14 1"),
-    ("robot-load-after", "14 1"),
-    ("key-retire-5", "11 255"),
-    ("load-not-signed", "14 0"),
-    ("load-not-signed-and-retired", "14 0"),
-    ("no-test-false", "0 255"),
-    ("no-test-false-robot", "0 255"),
-    ("last-test-false", "14 15"),
-    ("last-test-false-robot", "14 15"),
-    ("tests-7-to-15-false", "14 7"),
-    ("tests-7-to-15-false-robot", "14 7"),
-    ("create-at-48", "16 255"),
-    ("27-no-scheme-request", "27 255"),
+/// Some labels and the words behind them, worked out by hand: the number, which test stopped the request, and the steps.
+const ANSWERS: &[(&str, &str)] = &[
+    ("key-load", "0 255 3"),
+    ("key-retire", "0 255 2"),
+    ("key-load-after", "14 1 2"),
+    ("robot-load", "0 255 4"),
+    ("robot-retire", "0 255 3"),
+    ("robot-load-after", "14 1 2"),
+    ("key-command-2", "10 255 0"),
+    ("key-retire-5", "11 255 0"),
+    ("key-retire-5-8", "12 255 0"),
+    ("key-retire-9-9", "13 255 0"),
+    ("load-not-signed", "14 0 1"),
+    ("load-not-signed-and-retired", "14 0 1"),
+    ("destroy-9-9", "17 255 2"),
+    ("no-test-false", "0 255 17"),
+    ("no-test-false-robot", "0 255 18"),
+    ("first-test-false", "14 0 1"),
+    ("first-test-false-robot", "14 0 1"),
+    ("last-test-false", "14 15 16"),
+    ("last-test-false-robot", "14 15 16"),
+    ("tests-7-to-15-false", "14 7 8"),
+    ("tests-7-to-15-false-robot", "14 7 8"),
+    ("create-at-48", "16 255 1"),
+    ("create-used-at-48", "15 255 1"),
+    ("create-two-at-47", "16 255 2"),
+    ("create-and-destroy-at-48", "16 255 1"),
+    ("create-entered-and-destroy", "0 255 4"),
+    ("command-31-of-32", "0 255 48"),
+    ("command-31-its-right-gone", "14 0 1"),
+    ("27-no-scheme-request", "27 255 0"),
+    ("no-room-matrix-asked-5", "27 255 0"),
+    ("steps-15-first-of-creates", "15 255 1"),
+    ("steps-15-last-of-creates", "15 255 8"),
+    ("steps-15-middle-before-enters-behind-tests", "15 255 20"),
+    ("steps-15-last-before-enters-behind-tests", "15 255 23"),
+    ("steps-16-first-before-enters-behind-tests", "16 255 17"),
+    ("steps-16-middle-of-creates", "16 255 4"),
+    ("steps-16-last-of-creates-behind-tests", "16 255 23"),
+    ("steps-17-second-of-destroys", "17 255 2"),
+    ("steps-17-second-after-enters", "17 255 26"),
+    ("steps-17-middle-of-destroys-behind-tests", "17 255 21"),
+    ("steps-17-last-after-enters", "17 255 32"),
+    ("steps-17-last-after-enters-behind-tests", "17 255 48"),
+    ("steps-0-of-creates", "0 255 8"),
+    ("steps-0-before-enters-behind-tests", "0 255 48"),
+    ("steps-14-first-before-15", "14 0 1"),
+    ("steps-14-last-before-17", "14 15 16"),
+    ("steps-office", "0 255 32"),
+    ("steps-robot", "0 255 48"),
 ];
 
 /// The same for lists, with all that is in the answers' buffer afterwards; before, it holds 1, 2, 3 and so on.
+#[rustfmt::skip]
 const LISTS: &[(&str, &str, &[u8])] = &[
     ("list-empty", "0 0", &[]),
     ("list-empty-room-1", "0 0", &[1]),
+    ("list-empty-room-2", "0 0", &[1, 2]),
     ("list-of-three-room-3", "9", &[1, 2, 3]),
-    ("list-of-three-room-4", "9", &[1, 2, 3, 4]),
-    ("list-of-three-room-5", "9", &[1, 2, 3, 4, 5]),
-    ("list-of-three", "0 3", &[0, 255, 0, 255, 14, 1]),
-    ("list-of-three-room-7", "0 3", &[0, 255, 0, 255, 14, 1, 7]),
-    ("list-bad-short", "9", &[1, 2, 3]),
-    ("list-bad-front", "1 2 20", &[0, 255, 0, 255]),
-    ("list-bad-leftover", "3 2 20", &[0, 255, 0, 255, 5]),
+    ("list-of-three-room-6", "9", &[1, 2, 3, 4, 5, 6]),
+    ("list-of-three-room-7", "9", &[1, 2, 3, 4, 5, 6, 7]),
+    ("list-of-three-room-8", "9", &[1, 2, 3, 4, 5, 6, 7, 8]),
+    ("list-of-three", "0 3", &[0, 255, 3, 0, 255, 2, 14, 1, 2]),
+    ("list-of-three-room-10", "0 3", &[0, 255, 3, 0, 255, 2, 14, 1, 2, 10]),
+    ("list-of-three-room-11", "0 3", &[0, 255, 3, 0, 255, 2, 14, 1, 2, 10, 11]),
+    ("list-of-three-room-12", "0 3", &[0, 255, 3, 0, 255, 2, 14, 1, 2, 10, 11, 12]),
+    ("list-all-refusals", "0 7", &[10, 255, 0, 11, 255, 0, 12, 255, 0, 13, 255, 0, 0, 255, 3, 0, 255, 2, 14, 1, 2]),
+    ("list-bad-shorter", "9", &[1, 2, 3, 4]),
+    ("list-bad-short", "9", &[1, 2, 3, 4, 5]),
+    ("list-bad-front", "1 2 20", &[0, 255, 3, 0, 255, 2]),
+    ("list-bad-kind", "2 2 20", &[0, 255, 3, 0, 255, 2, 7, 8]),
+    ("list-bad-leftover", "3 2 20", &[0, 255, 3, 0, 255, 2, 7]),
+    ("steps-list", "0 10", &[
+        0, 255, 48, 10, 255, 0, 15, 255, 17, 11, 255, 0, 16, 255, 1, 17, 255, 42, 17, 255, 2, 0, 255, 8, 12, 255, 0, 14, 0, 1,
+    ]),
 ];
 
 /// As the program tells what a buffer holds.
@@ -81,12 +126,12 @@ fn sum(bytes: &[u8]) -> u64 {
 }
 
 #[test]
-fn the_first_false_test_is_told() {
+fn the_first_false_test_and_the_steps_are_told() {
     let text = stdout();
     let stands = |start: String| {
         assert!(text.lines().any(|line| line.starts_with(&start)), "{start}");
     };
-    for (label, words) in STOPS {
+    for (label, words) in ANSWERS {
         stands(format!("{label} {words} "));
     }
     for (label, words, buffer) in LISTS {

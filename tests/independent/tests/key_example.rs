@@ -50,30 +50,27 @@ fn the_matrix_has_six_cells() {
 #[test]
 fn load_then_retire_then_load() {
     let (scheme, mut matrix) = (key_scheme(), key_matrix());
-    assert_eq!(carries_out(&scheme, &mut matrix, LOAD, &[9, 12]), (0, 255));
-    assert_eq!(matrix.cell(9, 12), Some(10));
-    assert_eq!(carries_out(&scheme, &mut matrix, RETIRE, &[5, 9]), (0, 255));
-    assert_eq!(matrix.cell(9, 9), Some(4));
-    assert_eq!(carries_out(&scheme, &mut matrix, LOAD, &[9, 12]), (14, 1));
+    let mut gives = |command, ids: &[u16], answer| {
+        assert_eq!(carries_out(&scheme, &mut matrix, command, ids), answer);
+        matrix.clone()
+    };
+    assert_eq!(gives(LOAD, &[9, 12], (0, 255, 3)).cell(9, 12), Some(10));
+    assert_eq!(gives(RETIRE, &[5, 9], (0, 255, 2)).cell(9, 9), Some(4));
+    gives(LOAD, &[9, 12], (14, 1, 2));
 }
 
 #[test]
 fn refused_before_the_tests() {
     let (scheme, mut matrix) = (key_scheme(), key_matrix());
-    assert_eq!(
-        carries_out(&scheme, &mut matrix, RETIRE, &[9, 9]),
-        (13, 255)
-    );
-    assert_eq!(
-        carries_out(&scheme, &mut matrix, RETIRE, &[5, 8]),
-        (12, 255)
-    );
-    assert_eq!(carries_out(&scheme, &mut matrix, RETIRE, &[5]), (11, 255));
-    assert_eq!(carries_out(&scheme, &mut matrix, 2, &[]), (10, 255));
-    assert_eq!(
-        carries_out(&scheme, &mut matrix, RETIRE, &[5; 9]),
-        (11, 255)
-    );
+    let mut gives = |command, ids: &[u16], number| {
+        let answer = carries_out(&scheme, &mut matrix, command, ids);
+        assert_eq!(answer, (number, 255, 0));
+    };
+    gives(RETIRE, &[9, 9], 13);
+    gives(RETIRE, &[5, 8], 12);
+    gives(RETIRE, &[5], 11);
+    gives(2, &[], 10);
+    gives(RETIRE, &[5; 9], 11);
 }
 
 #[test]
@@ -93,17 +90,15 @@ fn converted() {
     }
     assert_eq!(start.cells().len(), 6);
 
-    assert_eq!(
-        carries_out(&converted, &mut start, LOAD, &[9, 12]),
-        (0, 255)
-    );
-    assert_eq!(
-        carries_out(&converted, &mut start, RETIRE, &[5, 9]),
-        (0, 255)
-    );
-    assert_eq!(start.cell(9, 12), Some(90));
-    assert_eq!(start.cell(9, 9), Some(180));
-    assert_eq!(carries_out(&converted, &mut start, LOAD, &[9, 12]), (14, 1));
+    let mut gives = |command, ids: &[u16], answer| {
+        assert_eq!(carries_out(&converted, &mut start, command, ids), answer);
+        start.clone()
+    };
+    gives(LOAD, &[9, 12], (0, 255, 4));
+    let after = gives(RETIRE, &[5, 9], (0, 255, 3));
+    assert_eq!(after.cell(9, 12), Some(90));
+    assert_eq!(after.cell(9, 9), Some(180));
+    gives(LOAD, &[9, 12], (14, 1, 2));
 
     // The head is the outline's; the commands are worked out by hand from its rules.
     let expected = bytes(
@@ -138,7 +133,7 @@ fn a_command_that_destroys_one_key_twice() {
     let scheme = scheme_of(&[1, 1], &operations);
     assert!(read_scheme(&write_scheme(&scheme)).is_ok());
     let mut matrix = key_matrix();
-    assert_eq!(carries_out(&scheme, &mut matrix, 0, &[9, 9]), (17, 255));
+    assert_eq!(carries_out(&scheme, &mut matrix, 0, &[9, 9]), (17, 255, 2));
     assert_eq!(matrix.type_of(9), Some(1));
     assert_eq!(matrix, key_matrix());
 }
@@ -155,20 +150,23 @@ fn things(scheme: &Scheme, count: usize) -> Matrix {
 fn creates_at_the_limit() {
     let one = scheme_of(&[1], &[Operation::Create { parameter: 0 }]);
     let mut full = things(&one, MOST_THINGS);
-    assert_eq!(carries_out(&one, &mut full, 0, &[100]), (16, 255));
-    assert_eq!(carries_out(&one, &mut full, 0, &[7]), (15, 255));
+    assert_eq!(carries_out(&one, &mut full, 0, &[100]), (16, 255, 1));
+    assert_eq!(carries_out(&one, &mut full, 0, &[7]), (15, 255, 1));
 
     let mut almost = things(&one, MOST_THINGS - 1);
-    assert_eq!(carries_out(&one, &mut almost.clone(), 0, &[100]), (0, 255));
+    assert_eq!(
+        carries_out(&one, &mut almost.clone(), 0, &[100]),
+        (0, 255, 1)
+    );
     let operations = [
         Operation::Create { parameter: 0 },
         Operation::Create { parameter: 1 },
     ];
     let two = scheme_of(&[1, 2], &operations);
-    assert_eq!(carries_out(&two, &mut almost, 0, &[100, 101]), (16, 255));
+    assert_eq!(carries_out(&two, &mut almost, 0, &[100, 101]), (16, 255, 2));
     assert_eq!((almost.type_of(100), almost.type_of(101)), (None, None));
     // The second id exists at that moment, so 15 comes before 16.
-    assert_eq!(carries_out(&two, &mut almost, 0, &[100, 100]), (15, 255));
+    assert_eq!(carries_out(&two, &mut almost, 0, &[100, 100]), (15, 255, 2));
 }
 
 #[test]

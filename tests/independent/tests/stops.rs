@@ -37,7 +37,7 @@ fn sixteen_tests() -> Vec<Test> {
     (0..16).map(test).collect()
 }
 
-/// What the command answers for things 1 and 2, where just these of its tests don't hold; the robot answers the same.
+/// The number and the test's place for things 1 and 2, where just these of its tests don't hold; the robot answers the same.
 fn answer(is_false: impl Fn(u8) -> bool) -> (u8, u8) {
     let scheme = scheme(sixteen_tests());
     let mut office = Matrix::new();
@@ -56,9 +56,10 @@ fn answer(is_false: impl Fn(u8) -> bool) -> (u8, u8) {
 fn answer_of_both(scheme: &Scheme, office: &Matrix) -> (u8, u8) {
     let robot_scheme = convert_scheme(scheme).unwrap();
     let mut robot = convert_matrix(office, scheme).unwrap();
-    let answer = carries_out(scheme, &mut office.clone(), 0, &[1, 2]);
-    assert_eq!(carries_out(&robot_scheme, &mut robot, 0, &[1, 2]), answer);
-    answer
+    let (number, test, _) = carries_out(scheme, &mut office.clone(), 0, &[1, 2]);
+    let (robot_number, robot_test, _) = carries_out(&robot_scheme, &mut robot, 0, &[1, 2]);
+    assert_eq!((robot_number, robot_test), (number, test));
+    (number, test)
 }
 
 #[test]
@@ -99,8 +100,15 @@ fn a_test_written_twice_counts_twice() {
 }
 
 #[test]
-fn an_answer_is_two_bytes() {
-    let answers = [Answer::plain(0), Answer::stopped_by(1), Answer::plain(17)];
-    assert_eq!(list_bytes(&answers), [0, 255, 14, 1, 17, 255]);
-    assert_eq!(Answer::BYTES, 2);
+fn an_answer_is_three_bytes() {
+    let command = &scheme(sixteen_tests()).commands[0];
+    let answers = [
+        Answer::carried_out(command),
+        Answer::stopped_by(1),
+        Answer::at_operation(17, command, 0),
+        Answer::before_tests(27),
+    ];
+    let bytes = [0, 255, 17, 14, 1, 2, 17, 255, 17, 27, 255, 0];
+    assert_eq!(list_bytes(&answers), bytes);
+    assert_eq!(Answer::BYTES, 3);
 }

@@ -37,14 +37,14 @@ fn check_says_how_much_there_is() {
 
 #[test]
 fn run_writes_what_the_list_leaves() {
-    let text = "request command result test\n0 1 0 255\n1 0 0 255\n2 1 14 1\n";
+    let text = "request command result test steps\n0 1 0 255 3\n1 0 0 255 2\n2 1 14 1 2\n";
     let after = used("run s m q m", key(), 0, &format!("{text}m: 75 bytes\n"));
     assert_eq!(after["m"][65..67], [12, 0]);
     assert_eq!(after["m"][67], 10);
 
     let mut cut = key();
     cut.get_mut("q").unwrap().truncate(19);
-    let said = "request command result test\n0 1 0 255\nbad 10 1\nout: 59 bytes\n";
+    let said = "request command result test steps\n0 1 0 255 3\nbad 10 1\nout: 59 bytes\n";
     assert_eq!(used("run s m q out", cut, 1, said).len(), 4);
 
     let refused = "m: refused with number 2 at position 0; nothing was written\n";

@@ -9,17 +9,20 @@ use lib.Dec.{eqb}
 use lib.ListN.{length}
 use Rattle.laws.specs.Check.{_orElse_, must}
 use Rattle.model.specs.Scheme.{parametersOf, testsOf, operationsOf}
-use Rattle.model.specs.Request.{Outcome, done, refused, at, Answer, answer, after, unlessFault, placesFault}
+use Rattle.model.specs.Request.{Request, Outcome, done, refused, at, Answer, answer, after, unlessFault, placesFault, step}
 use Rattle.model.specs.Answers.{verdictOf}
 use Rattle.model.specs.Seats.{Matrix, matrixOf, seats}
 use Rattle.model.specs.declared.Operation.{Operation}
 use Rattle.model.specs.declared.Command.{Command}
+use Rattle.model.specs.declared.Scheme.{Scheme}
 use Rattle.model.specs.declared.Verdict.{Verdict}
 use Rattle.model.specs.declared.Verdict.the-variants.{Done, Refused}
 use Rattle.plan.specs.Locate.{bare, spotsOf}
 use Rattle.plan.specs.Plan.{Plan, planOf, planAll}
+use Rattle.engine.specs.Step.{answered}
 use Rattle.engine.specs.Inner.Cells.{firstFalse, cellsAfter}
 use Rattle.engine.specs.declared.answers.Carried.{Carried}
+use Rattle.engine.specs.declared.answers.Stepped.{Stepped}
 
 -- the answer that a verdict stands for
 abbrev pub answerOf : Verdict → Answer
@@ -51,3 +54,9 @@ planned m ids c =
     orElse placesFault seats (bare (m .things)) os 0 types ids
     orElse firstFalse (m .cells) spots 0 (testsOf (c .tests)))
     (carriedBy (m .cells) os (planAll types ids 0 os (planOf (m .things) spots)))
+
+-- a request of an accepted scheme and matrix
+abbrev pub stepOn : Scheme → Matrix → ℕ → List ℕ → Stepped × List ℕ
+stepOn s m command ids =
+    let q : Request = record { command = command; ids = ids } in
+    answered s m q (step seats s m q)

@@ -7,6 +7,7 @@ use Rattle.model.specs.declared.Reply.{Reply}
 use Rattle.request_bytes.specs.declared.answers.RequestReading.{RequestReading}
 use Rattle.request_bytes.specs.declared.answers.RequestReading.the-variants.{Done, End, Refused}
 use Rattle.printout.specs.Text.{badLine, requestLine, requestLines, endingLine}
+use Rattle.printout.specs.declared.text.Columns.{Columns}
 use Rattle.request_list.specs.List.{Listed}
 
 -- the replies in a buffer from the n-th on
@@ -14,12 +15,12 @@ abbrev pub repliesFrom : ℕ → List ℕ → List Reply
 repliesFrom n replies = repliesIn (drop (n * replyWidth) replies)
 
 -- the line of request k, by the replies from its own on
-abbrev pub answerLine : ℕ → ℕ → List Reply → List ℕ
-answerLine k command [] = []
-answerLine k command (r ∷ rs) = requestLine k command r
+abbrev pub answerLine : Columns → ℕ → ℕ → List Reply → List ℕ
+answerLine columns k command [] = []
+answerLine columns k command (r ∷ rs) = requestLine columns k command r
 
-abbrev pub listText : ℕ → Listed → List Reply → List ℕ
-listText k l rs = requestLines k (l .requests) rs ++ endingLine (l .ending)
+abbrev pub listText : Columns → ℕ → Listed → List Reply → List ℕ
+listText columns k l rs = requestLines columns k (l .requests) rs ++ endingLine (l .ending)
 
 abbrev pub endedText : RequestReading → List ℕ
 endedText (Done next) = []

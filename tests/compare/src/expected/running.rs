@@ -9,7 +9,7 @@ use independent::scheme::Scheme;
 use super::{Content, Refused, ANSWERS, LARGE, OUTPUT, REQUESTS, WHOLE};
 use crate::buffer::{stored, UNTOUCHED};
 use crate::counts::Counts;
-use crate::list::{carry, Carried, STEPS};
+use crate::list::{carry, Carried, ONE_BY_ONE};
 use crate::told::{report, Call, Told};
 
 /// Gives the matrix after the first requests, for what is carried out on it later.
@@ -31,7 +31,7 @@ pub fn expect<'a>(
             for (answers, out) in lengths {
                 told.push(run_list(answers, out, &carried));
             }
-            run_steps(&carried, told);
+            run_one_by_one(&carried, told);
             Some((scheme, carried.matrix))
         }
         (Err(refused), _) | (_, Err(refused)) => {
@@ -65,13 +65,14 @@ fn run_list(answers: usize, out: usize, carried: &Carried) -> Told {
     }
 }
 
-fn run_steps(carried: &Carried, told: &mut Vec<Told>) {
-    for (request, (answer, bytes)) in carried.answers.iter().zip(&carried.steps).enumerate() {
-        told.push(ran(Call::RunStep { request }, &[*answer], bytes, None));
+fn run_one_by_one(carried: &Carried, told: &mut Vec<Told>) {
+    let answers = carried.answers.iter();
+    for (request, (answer, bytes)) in answers.zip(&carried.after_each).enumerate() {
+        told.push(ran(Call::RunAlone { request }, &[*answer], bytes, None));
     }
-    let request = carried.steps.len();
-    if request < STEPS && carried.ending.is_some() {
-        let call = Call::RunStep { request };
+    let request = carried.after_each.len();
+    if request < ONE_BY_ONE && carried.ending.is_some() {
+        let call = Call::RunAlone { request };
         told.push(ran(call, &[], &carried.bytes, carried.ending_alone));
     }
 }

@@ -1,23 +1,21 @@
-//! Requests and lists of them: 10 to 17 at their edges, which test stops a request, a matrix that is full, seats that are taken again, and 9 and bad
-//! records of a list.
+//! Requests: 10 to 17 at their edges, which test stops a request, a matrix that is full, and seats that are taken again.
 
 use super::examples::{changed, key_matrix, key_scheme, KEY_MATRIX, LOAD, RETIRE};
 use super::tasks::Ask;
 use super::{case, Case, Task};
 use crate::matrix::{write_matrix, Matrix};
-use crate::request::write_request;
 use crate::scheme::{write_scheme, Command, Operation, Scheme, Test, MOST_TESTS};
 
 pub fn cases() -> Vec<Case> {
-    [key_example(), stops(), creates(), destroys(), lists()].concat()
+    [key_example(), stops(), creates(), destroys()].concat()
 }
 
-fn ask(label: &str, command: u8, ids: &[u16]) -> Case {
+pub fn ask(label: &str, command: u8, ids: &[u16]) -> Case {
     let ids = ids.to_vec();
     case(label, Task::Request(Ask { command, ids }))
 }
 
-fn totals(label: &str) -> Case {
+pub fn totals(label: &str) -> Case {
     case(label, Task::Totals)
 }
 
@@ -124,7 +122,7 @@ fn stops() -> Vec<Case> {
 const ALL_HOLD: u64 = 0x5555;
 
 /// Each right below 16 is tested, every other one for absence; right 16 is entered.
-fn sixteen_tests() -> Scheme {
+pub fn sixteen_tests() -> Scheme {
     let (row, column) = (0, 0);
     let test = |right: u8| Test {
         present: ALL_HOLD >> right & 1 == 1,
@@ -147,7 +145,7 @@ fn sixteen_tests() -> Scheme {
 }
 
 /// Thing 7 alone: the tests of the flipped rights are false, and no others.
-fn one_cell(scheme: &Scheme, flips: u64) -> Vec<u8> {
+pub fn one_cell(scheme: &Scheme, flips: u64) -> Vec<u8> {
     let mut matrix = Matrix::new();
     matrix.create(scheme, 7, 0);
     matrix.set_cell(7, 7, ALL_HOLD ^ flips);
@@ -232,61 +230,5 @@ fn destroys() -> Vec<Case> {
         totals("nine-things"),
         write("seats-taken-again", 85),
         write("seats-taken-again-short", 84),
-    ]
-}
-
-/// Lists that end, and lists that end with a record that can't be read, with just enough room for the answers, two bytes each, with more and with
-/// less; an odd byte is no room.
-fn lists() -> Vec<Case> {
-    let three = requests(&[(LOAD, &[9, 12]), (RETIRE, &[5, 9]), (LOAD, &[9, 12])]);
-    let behind = |bytes: &[u8]| [&three[..20], bytes].concat();
-    let refusals = requests(&[
-        (2, &[]),
-        (RETIRE, &[]),
-        (RETIRE, &[0, 9]),
-        (RETIRE, &[9, 9]),
-        (LOAD, &[9, 12]),
-        (RETIRE, &[5, 9]),
-        (LOAD, &[9, 12]),
-    ]);
-    let lists = [
-        run("list-empty", &[], 0),
-        run("list-empty-room-1", &[], 1),
-        run("list-of-three-room-3", &three, 3),
-        run("list-of-three-room-4", &three, 4),
-        run("list-of-three-room-5", &three, 5),
-        run("list-of-three", &three, 6),
-        run("list-of-three-room-7", &three, 7),
-        run("list-bad-short", &behind(&[0]), 3),
-        run("list-bad-front", &behind(&[6, 0, 6]), 4),
-        run("list-bad-kind", &behind(&[2, 0, 5, 0, 0, 0]), 4),
-        run("list-bad-leftover", &behind(&[3, 0, 6, 0, 0, 0, 0]), 5),
-        run("list-bad-nine-ids", &behind(&[2, 0, 6, 0, 0, 9]), 4),
-        run("list-bad-body", &behind(&[3, 0, 6, 0, 0, 0]), 4),
-        run("list-bad-first", &[1, 2, 3], 0),
-        run("list-all-refusals", &refusals, 14),
-    ];
-    let mut cases = vec![key_scheme("key-scheme-of-lists")];
-    cases.extend(lists.concat());
-    cases
-}
-
-fn requests(ids: &[(u8, &[u16])]) -> Vec<u8> {
-    let record = |&(command, ids): &(u8, &[u16])| write_request(command, ids).expect("few ids");
-    ids.iter().flat_map(record).collect()
-}
-
-/// The key example's matrix, the list on it, and the totals after it; then the same with no answers stored.
-fn run(label: &str, list: &[u8], room: u64) -> Vec<Case> {
-    let named = |end: &str| format!("{label}-{end}");
-    let list = list.to_vec();
-    let quietly = Task::ListQuietly(list.clone());
-    vec![
-        key_matrix(&named("matrix")),
-        case(label, Task::List { list, room }),
-        totals(&named("totals")),
-        key_matrix(&named("matrix-again")),
-        case(named("quietly"), quietly),
-        totals(&named("quietly-totals")),
     ]
 }

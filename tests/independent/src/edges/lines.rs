@@ -124,9 +124,11 @@ impl State {
         let said = Said::default();
         match task {
             Task::Request(ask) => {
-                let answer = self.request(ask, lent).unwrap_or_else(Answer::plain);
+                let answer = self.request(ask, lent);
+                let answer = answer.unwrap_or_else(Answer::before_tests);
                 said.gave("engine::request", answer.number)
                     .word(answer.test)
+                    .word(answer.steps)
             }
             Task::List { list, room } => self.list(list, *room, lent),
             Task::ListQuietly(list) => match self.matrix(self.scheme(), lent) {
@@ -275,7 +277,7 @@ impl State {
         let answer = carry_out(&scheme, &mut matrix, ask.command.into(), &ask.ids);
         if answer.number == 0 {
             let command = &scheme.commands[usize::from(ask.command)];
-            self.seats.step(&command.operations, &ask.ids, &matrix);
+            self.seats.request(&command.operations, &ask.ids, &matrix);
         }
         Ok(answer)
     }

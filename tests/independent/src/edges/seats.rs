@@ -85,7 +85,7 @@ impl Seats {
     }
 
     /// As a request leaves it: a created thing takes the first free seat, a destroyed one's seat is free again.
-    pub fn step(&mut self, operations: &[Operation], ids: &[u16], after: &Matrix) {
+    pub fn request(&mut self, operations: &[Operation], ids: &[u16], after: &Matrix) {
         for operation in operations {
             match *operation {
                 Operation::Create { parameter } => {

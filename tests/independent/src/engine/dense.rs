@@ -54,21 +54,21 @@ impl Dense {
     /// 0 and the changed matrix, or 10 to 17 and no effect at all.
     pub fn carry_out(&mut self, scheme: &Scheme, command: usize, ids: &[u16]) -> Answer {
         let Some(command) = scheme.commands.get(command) else {
-            return Answer::plain(10);
+            return Answer::before_tests(10);
         };
         let mut seats = [0; 8];
         let refused = self.locate(command, ids, &mut seats);
         if refused != 0 {
-            return Answer::plain(refused);
+            return Answer::before_tests(refused);
         }
         if let Some(place) = self.first_false(command, &seats) {
             return Answer::stopped_by(place);
         }
-        let refused = self.refused(command, ids);
-        if refused == 0 {
-            self.change(command, ids, &mut seats);
+        if let Some((number, place)) = self.first_faulty(command, ids) {
+            return Answer::at_operation(number, command, place);
         }
-        Answer::plain(refused)
+        self.change(command, ids, &mut seats);
+        Answer::carried_out(command)
     }
 
     /// 11 to 13; or 0 and the seats of the parameters that aren't new.
@@ -113,22 +113,22 @@ impl Dense {
         })
     }
 
-    /// 15 to 17 before anything changes: only creates and destroys can refuse, and ids tell things apart.
-    fn refused(&self, command: &Command, ids: &[u16]) -> u8 {
+    /// 15 to 17 and the operation's place, before anything changes: only creates and destroys can refuse, and ids tell things apart.
+    fn first_faulty(&self, command: &Command, ids: &[u16]) -> Option<(u8, usize)> {
         let mut things = self.things;
         let mut created = [0u16; 8];
         let mut destroyed = [0u16; 8];
         let mut gone = 0;
-        for operation in &command.operations {
+        for (place, operation) in command.operations.iter().enumerate() {
             match *operation {
                 Operation::Create { parameter } => {
                     let id = ids[parameter as usize];
                     let so_far = things - self.things;
                     if self.seat_of(id).is_some() || created[..so_far].contains(&id) {
-                        return 15;
+                        return Some((15, place));
                     }
                     if things == SEATS {
-                        return 16;
+                        return Some((16, place));
                     }
                     created[so_far] = id;
                     things += 1;
@@ -136,7 +136,7 @@ impl Dense {
                 Operation::Destroy { parameter } => {
                     let id = ids[parameter as usize];
                     if destroyed[..gone].contains(&id) {
-                        return 17;
+                        return Some((17, place));
                     }
                     destroyed[gone] = id;
                     gone += 1;
@@ -144,7 +144,7 @@ impl Dense {
                 Operation::Enter { .. } | Operation::Delete { .. } => {}
             }
         }
-        0
+        None
     }
 
     /// The operations of a request that isn't refused.

@@ -1,7 +1,8 @@
 //! Random valid schemes, with all limits reached now and then.
 
+use super::places::{operations, Places};
 use super::random::Random;
-use crate::scheme::{Command, Operation, Scheme, Test};
+use crate::scheme::{Command, Scheme};
 
 pub fn scheme(random: &mut Random) -> Scheme {
     // A plain scheme neither creates nor destroys.
@@ -43,6 +44,39 @@ fn command(
     is_plain: bool,
     most_operations: usize,
 ) -> Command {
+    let parameters = parameters(random, scheme, is_plain);
+    let all: Vec<u8> = (0..parameters.len() as u8).collect();
+    let mut drawn = || match is_plain {
+        true => Vec::new(),
+        false => some(random, &all),
+    };
+    let (new, mut destroyed) = (drawn(), drawn());
+    let places = Places::of(scheme, &parameters, &new);
+
+    let count = match places.old_rows.is_empty() {
+        true => 0,
+        false => random.size(0, 16, &[0, 15, 16]),
+    };
+    let tests = places.tests(random, count);
+
+    let least = usize::from(new.is_empty() && destroyed.is_empty());
+    let most = most_operations - new.len() - destroyed.len();
+    let count = match places.rows.is_empty() {
+        true => 0,
+        false => random.size(least, most, &[15, 16, 17, 31]),
+    };
+    let between = places.enters_and_deletes(random, count);
+    if new.is_empty() && between.is_empty() && destroyed.is_empty() {
+        destroyed.push(*random.pick(&all));
+    }
+    Command {
+        parameters,
+        tests,
+        operations: operations(&new, between, &destroyed),
+    }
+}
+
+fn parameters(random: &mut Random, scheme: &Scheme, is_plain: bool) -> Vec<u8> {
     let count = random.size(1, 8, &[1, 7, 8]);
     let mut parameters: Vec<u8> = Vec::new();
     for _ in 0..count {
@@ -56,70 +90,7 @@ fn command(
     if is_plain && !parameters.iter().any(|&kind| scheme.is_subject_type(kind)) {
         parameters[random.below(count)] = scheme.subjects.trailing_zeros() as u8;
     }
-
-    let all: Vec<u8> = (0..count as u8).collect();
-    let new = if is_plain {
-        Vec::new()
-    } else {
-        some(random, &all)
-    };
-    let old: Vec<u8> = all
-        .iter()
-        .copied()
-        .filter(|place| !new.contains(place))
-        .collect();
-    let destroyed = if is_plain {
-        Vec::new()
-    } else {
-        some(random, &all)
-    };
-    let is_row = |place: &u8| scheme.is_subject_type(parameters[*place as usize]);
-    let rows: Vec<u8> = all.iter().copied().filter(is_row).collect();
-    let old_rows: Vec<u8> = old.iter().copied().filter(is_row).collect();
-
-    let mut tests = Vec::new();
-    if !old_rows.is_empty() {
-        for _ in 0..random.size(0, 16, &[0, 15, 16]) {
-            tests.push(Test {
-                present: random.chance(1, 2),
-                right: random.below(scheme.rights as usize) as u8,
-                row: *random.pick(&old_rows),
-                column: *random.pick(&old),
-            });
-        }
-    }
-
-    let mut operations: Vec<Operation> = new
-        .iter()
-        .map(|&parameter| Operation::Create { parameter })
-        .collect();
-    if !rows.is_empty() {
-        let most = most_operations - new.len() - destroyed.len();
-        let least = usize::from(new.is_empty() && destroyed.is_empty());
-        for _ in 0..random.size(least, most, &[15, 16, 17, 31]) {
-            let right = random.below(scheme.rights as usize) as u8;
-            let (row, column) = (*random.pick(&rows), *random.pick(&all));
-            operations.push(match random.chance(1, 2) {
-                true => Operation::Enter { right, row, column },
-                false => Operation::Delete { right, row, column },
-            });
-        }
-    }
-    operations.extend(
-        destroyed
-            .iter()
-            .map(|&parameter| Operation::Destroy { parameter }),
-    );
-    if operations.is_empty() {
-        operations.push(Operation::Destroy {
-            parameter: *random.pick(&all),
-        });
-    }
-    Command {
-        parameters,
-        tests,
-        operations,
-    }
+    parameters
 }
 
 /// None, some or all of the places, in any order.

@@ -24,7 +24,7 @@ pub fn stops(random: &mut Random, scheme: &mut Scheme, matrix: &Matrix) -> Vec<D
 }
 
 /// Things of the types and new ids; none where a type has no thing.
-fn ids(random: &mut Random, command: &Command, matrix: &Matrix) -> Option<Vec<u16>> {
+pub fn ids(random: &mut Random, command: &Command, matrix: &Matrix) -> Option<Vec<u16>> {
     let mut ids = Vec::new();
     for (place, &kind) in command.parameters.iter().enumerate() {
         let of_type = of_type(matrix, kind);
@@ -38,7 +38,7 @@ fn ids(random: &mut Random, command: &Command, matrix: &Matrix) -> Option<Vec<u1
 }
 
 /// All tests before the place hold for these ids, and the one there doesn't. Those behind stay as they were drawn: many of them don't hold either.
-fn stop_at(place: usize, command: &mut Command, ids: &[u16], matrix: &Matrix) {
+pub fn stop_at(place: usize, command: &mut Command, ids: &[u16], matrix: &Matrix) {
     for (number, test) in command.tests.iter_mut().enumerate().take(place + 1) {
         let [row, column] = [test.row, test.column].map(|parameter| ids[parameter as usize]);
         let set = matrix.cell(row, column).expect("a tested cell exists");

@@ -1,6 +1,7 @@
 //! What the tests share: the outline's key example, bytes written as text, and requests for both engines.
 #![allow(dead_code)]
 
+use independent::answer::Answer;
 use independent::engine::{carry_out, Dense};
 use independent::matrix::{read_matrix, Matrix};
 use independent::request::write_request;
@@ -45,13 +46,26 @@ pub fn list(requests: &[(u8, &[u16])]) -> Vec<u8> {
         .collect()
 }
 
-/// The number and the test's place: both engines must answer this, and have the same matrix after it.
-pub fn carries_out(scheme: &Scheme, matrix: &mut Matrix, command: usize, ids: &[u16]) -> (u8, u8) {
+/// The number, the test's place and the steps.
+pub type Answered = (u8, u8, u8);
+
+/// Both engines must answer this, and have the same matrix after it.
+pub fn carries_out(scheme: &Scheme, matrix: &mut Matrix, command: usize, ids: &[u16]) -> Answered {
     let mut dense = Dense::from_matrix(matrix);
     let before = matrix.clone();
     let answer = carry_out(scheme, matrix, command, ids);
     assert_eq!(answer, dense.carry_out(scheme, command, ids));
     assert_eq!(*matrix, dense.to_matrix(scheme));
     assert!(answer.number == 0 || *matrix == before);
-    (answer.number, answer.test)
+    (answer.number, answer.test, answer.steps)
+}
+
+/// What a complete robot answers where the office answers this: the same, but what it carries out has twice the operations.
+pub fn of_robot(scheme: &Scheme, command: usize, office: Answer) -> Answer {
+    let more = match office.number {
+        0 => scheme.commands[command].operations.len() as u8,
+        _ => 0,
+    };
+    let steps = office.steps + more;
+    Answer { steps, ..office }
 }

@@ -3,15 +3,18 @@
 use Prim.Native.Nat.{_-_, _<_}
 use native.Mathlib.Omega.{arith}
 use mathlib.Core.Logic.{⊎-elim}
-use mathlib.Core.Path.{_≡_, sym, _∙_}
+use mathlib.Core.Path.{_≡_, sym, ap, _∙_}
 use lib.ListN.{length}
 use lib.Seq.{length-take-le}
+use Rattle.model.specs.Answers.{takes, replyOf}
 use Rattle.model.specs.Seats.{matrixOf}
+use Rattle.model.specs.declared.Verdict.{Verdict}
 use Rattle.model.proofs.HeldLaws.{held}
 use Rattle.request_bytes.proofs.Answered.{taken}
+use Rattle.engine.specs.Inner.Carry.{answerOf}
 use Rattle.engine.proofs.PlanIsStep.{counted}
-use Rattle.engine.proofs.StepLaws.{few-commands, command-ready}
-use Rattle.engine.proofs.ListLaws.{Turned, turned-none, turned-some, Running, running-start, same-room, running-on, run-none, run-stop}
+use Rattle.engine.proofs.StepLaws.{few-commands, command-ready, no-steps-10}
+use Rattle.engine.proofs.ListLaws.{Turned, turned-none, turn-few, turned-some, Running, running-start, same-room, running-on, run-none, run-stop}
 use borrow.Author.Needs.{needs}
 use Rattle.engine.proofs.list.run_all.Statement.{statement}
 use Rattle.engine.proofs.list.run_all.Tie as tie
@@ -53,6 +56,9 @@ returns c =
 refused-requires : tie.Need-refused-requires Inv-loop μ-loop
 refused-requires c κs = search needs
 
+reply-requires : tie.Need-reply-requires Inv-loop μ-loop
+reply-requires c κs = rw (c .refused .ensures) no-steps-10
+
 cast-i : tie.Need-cast-i Inv-loop μ-loop
 cast-i c = search needs
 
@@ -60,9 +66,9 @@ cast-k : tie.Need-cast-k Inv-loop μ-loop
 cast-k c = search needs
 
 -- a command that exists is one of 32
-near : (c : tie.Then1 Inv-loop μ-loop) → c .before .before .before .before .before .before .before .before .read-request .result .request .command < 32
+near : (c : tie.Then1 Inv-loop μ-loop) → c .before .before .before .before .before .before .before .before .before .read-request .result .request .command < 32
 near c =
-    let s = c .before .before .before .before .before .before .before .before .before .before .before .before .before .before .before in
+    let s = c .before .before .before .before .before .before .before .before .before .before .before .before .before .before .before .before in
     omega (arith, c .if1 .taken, few-commands (s .args .t1) (s .pre .0))
 
 mul-c : tie.Need-mul-c Inv-loop μ-loop
@@ -73,7 +79,7 @@ element-copy-out-c c = near (c .before .before .before)
 
 array-share-prefix-ids : tie.Need-array-share-prefix-ids Inv-loop μ-loop
 array-share-prefix-ids c =
-    let w = c .before .before .before .before .before .before .before .before .before .before in
+    let w = c .before .before .before .before .before .before .before .before .before .before .before in
     let r = w .before .before .before in
     taken _ _ _ (r .read-request .ensures) _ (w .answer .given .1) .held
 
@@ -83,28 +89,34 @@ slice-aggregate-carry-out c = sym (length-take-le _ _ (array-share-prefix-ids (c
 carry-out-requires : tie.Need-carry-out-requires Inv-loop μ-loop
 carry-out-requires c κs =
     let i = c .before .before .before .before .before .before in
-    let l = i .before .before .before .before .before .before .before .before .before .before in
+    let l = i .before .before .before .before .before .before .before .before .before .before .before in
     let s = l .before .before .before .before .before in
     counted _ _ (command-ready (s .args .t1) (s .pre .0) _ (l .loop .inv .held) _ (i .if1 .taken) _)
 
+reply-requires-2 : tie.Need-reply-requires-2 Inv-loop μ-loop
+reply-requires-2 c κs =
+    let i = c .before .before .before .before .before .before .before .before .before in
+    let r = i .before .before .before .before .before .before .before .before .before in
+    let l = r .before .before in
+    let s = l .before .before .before .before .before in
+    turn-few (s .args .t1) _ (r .read-request .result .request) (s .pre .0) (l .loop .inv .held) (i .if1 .taken) _ _ _ (c .before .before .carry-out .ensures)
+
 -- a request whose command exists is carried out, another is answered 10
 turned : (c : tie.Joined1 Inv-loop μ-loop) →
-    let r = c .before .before .before .before .before .before .before .before in
+    let r = c .before .before .before .before .before .before .before .before .before in
     let l = r .before .before in
-    Turned (l .before .before .before .before .before .args .t1) (matrixOf (l .loop .things) (l .loop .cells)) (r .read-request .result .request) (c .if1 .verdict)
+    Turned (l .before .before .before .before .before .args .t1) (matrixOf (l .loop .things) (l .loop .cells)) (r .read-request .result .request) (c .if1 .told)
     (matrixOf (c .if1 .things) (c .if1 .cells))
 turned c =
-    let r = c .before .before .before .before .before .before .before .before in
+    let r = c .before .before .before .before .before .before .before .before .before in
     let l = r .before .before in
     let s = l .before .before .before .before .before in
     ⊎-elim
-    (λ w. rw (w .11, w .12, w .13)
-    (turned-some (s .args .t1) _ (r .read-request .result .request) (s .pre .0) (l .loop .inv .held) (w .0 .taken) _ _ _ (w .7 .ensures)))
-    (λ w. rw (w .1, w .2, w .3) (turned-none (s .args .t1) _ (r .read-request .result .request) (w .0 .left) _ (c .before .before .before .refused .ensures)))
+    (λ w. rw (w .12, w .13, w .14)
+    (turned-some (s .args .t1) _ (r .read-request .result .request) (s .pre .0) (l .loop .inv .held) (w .0 .taken) _ _ _ (w .7 .ensures) _ (w .10 .ensures)))
+    (λ w. rw (w .1, w .2, w .3) (turned-none (s .args .t1) _ (r .read-request .result .request) (w .0 .left) _
+    (c .before .before .before .reply .ensures ∙ ap (λ (v : Verdict). replyOf (takes 0 0) (answerOf v)) (c .before .before .before .before .refused .ensures))))
     (c .if1 .came)
-
-reply-requires : tie.Need-reply-requires Inv-loop μ-loop
-reply-requires c κs = search needs
 
 put-reply-requires : tie.Need-put-reply-requires Inv-loop μ-loop
 put-reply-requires c κs = search needs
@@ -127,8 +139,8 @@ loop-again c =
     let r = w .before .before .before in
     let l = r .before .before in
     let s = l .before .before .before .before .before in
-    running-on (l .loop .inv) (s .pre .0) (r .before .loop-test .taken) _ (r .read-request .ensures) _ (w .answer .given .1) _ _ (turned (c .before .before .before .before .before))
-    _ (c .before .before .before .reply .ensures) _ (c .before .before .put-reply .ensures)
+    running-on (l .loop .inv) (s .pre .0) (r .before .loop-test .taken) _ (r .read-request .ensures) _ (w .answer .given .1) _ _ (turned (c .before .before .before .before))
+    _ (c .before .before .put-reply .ensures)
 
 same-length-3 : tie.Need-same-length-3 Inv-loop μ-loop
 same-length-3 c = cells-room (c .before)
@@ -153,6 +165,7 @@ run-all-spec =
     same-length-2
     returns
     refused-requires
+    reply-requires
     cast-i
     cast-k
     mul-c
@@ -160,7 +173,7 @@ run-all-spec =
     array-share-prefix-ids
     slice-aggregate-carry-out
     carry-out-requires
-    reply-requires
+    reply-requires-2
     put-reply-requires
     add-n
     loop-less

@@ -12,13 +12,13 @@ use Rattle.printout.proofs.play.put_requests.Tie as tie
 use Rattle.request_bytes.proofs.Answered.{taken}
 
 abbrev Inv-loop : tie.InvT-loop
-Inv-loop out₀ at bytes results n₀ p₀ to₀ out n p to = Printing bytes results out₀ at out n p to
+Inv-loop out₀ at columns bytes results n₀ p₀ to₀ out n p to = Printing columns bytes results out₀ at out n p to
 
 abbrev μ-loop : tie.MeasureT-loop
-μ-loop out₀ at bytes results n₀ p₀ to₀ out n p to = length bytes - p
+μ-loop out₀ at columns bytes results n₀ p₀ to₀ out n p to = length bytes - p
 
 loop-holds : tie.Need-loop-holds Inv-loop μ-loop
-loop-holds c = printing-start _ _ _ _ (omega arith)
+loop-holds c = printing-start _ _ _ _ _ (omega arith)
 
 read-request-requires : tie.Need-read-request-requires Inv-loop μ-loop
 read-request-requires c κs = search needs
