@@ -182,7 +182,7 @@ static int run_list(size_t room, int edges) {
 }
 
 /* The first requests of the list one by one, each a list of its own on the matrix that the one before left. */
-static void run_steps(void) {
+static void run_one_by_one(void) {
     size_t at = 0;
     for (size_t k = 0; k < ONE_BY_ONE && at < requests.length; k++) {
         const uint8_t *front = requests.bytes + at;
@@ -246,7 +246,7 @@ static void run_case(void) {
     memcpy(now.bytes, matrix.bytes, matrix.length);
     now.length = matrix.length;
     if (carried_out) {
-        run_steps();
+        run_one_by_one();
     }
     size_t behind = 0;
     for (uint32_t k = 0; k < head.direct; k++) {
