@@ -1,5 +1,6 @@
 /* The outline's key example through the library: the office loads, retires the key, and can't load again; the converted
- * table gives the robot the same answers, in more steps. What it prints is example.expected. */
+ * table gives the robot the same answers, in more steps. Then keys are issued and scrapped, and no number is used again.
+ * What it prints is example.expected. */
 #include "slushferret.h"
 #include <stdio.h>
 #include <stdlib.h>
@@ -14,7 +15,7 @@ static const uint8_t scheme[] = {
 };
 
 static const uint8_t matrix[] = {
-    2, 0, 3, 0, 4, 3,
+    4, 0, 7, 0, 4, 3, 12, 0,                            /* there never was an id above 12 */
     3, 0, 4, 0, 5, 0, 0,                                /* 5 is a manager */
     3, 0, 4, 0, 9, 0, 1,                                /* 9 is a key */
     3, 0, 4, 0, 12, 0, 2,                               /* 12 is a robot */
@@ -23,6 +24,22 @@ static const uint8_t matrix[] = {
 };
 
 enum { RETIRE = 0, LOAD = 1 };
+
+/* the office's own table: right 0 own; types 0 manager, 1 key */
+static const uint8_t office_scheme[] = {
+    0x05, 0, 1, 0, 1, 2, 1, 0, 2,
+    /* command 0, issue(M manager, K key): create K, enter own in [M,K] */
+    0x0D, 0, 2, 0, 2, 0, 1, 0, 2, 3, 0, 1, 0, 1, 0, 0, 1,
+    /* command 1, scrap(M manager, K key): if own in [M,K], destroy K */
+    0x0D, 0, 2, 0, 2, 0, 1, 1, 1, 0, 0, 1, 1, 4, 0, 1, 0,
+};
+
+static const uint8_t office_matrix[] = {
+    4, 0, 7, 0, 1, 1, 5, 0,
+    3, 0, 4, 0, 5, 0, 0, /* 5 is a manager */
+};
+
+enum { ISSUE = 0, SCRAP = 1 };
 
 /* what the last call reported */
 static size_t report[SLUSHFERRET_REPORT];
@@ -49,9 +66,10 @@ static void must_refuse(const char *what, uint8_t number, uint8_t expected) {
     }
 }
 
-/* the cells of a matrix that was written by the library */
-static void print_cells(const char *whose, const uint8_t *bytes, size_t length) {
-    printf("%s, %zu bytes\n", whose, length);
+/* the highest id and the cells of a matrix that was written by the library */
+static void print_matrix(const char *whose, const uint8_t *bytes, size_t length) {
+    const uint8_t *highest = bytes + SLUSHFERRET_HIGHEST_AT;
+    printf("%s, %zu bytes, highest id %d\n", whose, length, highest[0] + 256 * highest[1]);
     for (size_t at = 0; at < length; at += 4 + bytes[at]) {
         const uint8_t *body = bytes + at + 4;
         if (bytes[at + 2] == SLUSHFERRET_CELL) {
@@ -74,13 +92,32 @@ static size_t run(const char *whose, const uint8_t *with, size_t with_length, co
         if (answer[SLUSHFERRET_TEST_PLACE] != SLUSHFERRET_NO_TEST) {
             printf("test %d, ", answer[SLUSHFERRET_TEST_PLACE]);
         }
-        printf("%d steps)", answer[SLUSHFERRET_STEPS]);
+        printf("%d %s)", answer[SLUSHFERRET_STEPS], answer[SLUSHFERRET_STEPS] == 1 ? "step" : "steps");
     }
     printf("\n");
     if (report[SLUSHFERRET_RECORD] != 0) {
         printf("  the record at byte %zu can't be read: %zu\n", report[SLUSHFERRET_POSITION], report[SLUSHFERRET_RECORD]);
     }
     return written;
+}
+
+/* requests of two ids each, one behind the other: how many bytes they take */
+static size_t write_requests(const uint8_t *commands, const uint16_t (*ids)[2], size_t count, uint8_t *requests, size_t room) {
+    size_t length = 0;
+    for (size_t k = 0; k < count; k++) {
+        length = must("request", slushferret_write_request(commands[k], ids[k], 2, requests, room, length, report, SLUSHFERRET_REPORT));
+    }
+    return length;
+}
+
+/* key 31 is issued, scrapped, and can't be issued again; 32 can */
+static void run_keys(uint8_t *after) {
+    static const uint8_t commands[] = {ISSUE, SCRAP, ISSUE, ISSUE};
+    static const uint16_t ids[][2] = {{5, 31}, {5, 31}, {5, 31}, {5, 32}};
+    static uint8_t requests[4 * SLUSHFERRET_REQUEST_BYTES];
+    size_t length = write_requests(commands, ids, 4, requests, sizeof requests);
+    size_t written = run("keys", office_scheme, sizeof office_scheme, office_matrix, sizeof office_matrix, requests, length, after);
+    print_matrix("keys afterwards", after, written);
 }
 
 int main(void) {
@@ -103,14 +140,11 @@ int main(void) {
     /* load(9, 12), retire(5, 9), load(9, 12), each behind the one before */
     static const uint8_t commands[] = {LOAD, RETIRE, LOAD};
     static const uint16_t ids[][2] = {{9, 12}, {5, 9}, {9, 12}};
-    size_t length = 0;
-    for (size_t k = 0; k < 3; k++) {
-        length = must("request", slushferret_write_request(commands[k], ids[k], 2, requests, sizeof requests, length, report, SLUSHFERRET_REPORT));
-    }
+    size_t length = write_requests(commands, ids, 3, requests, sizeof requests);
     printf("three requests, %zu bytes\n", length);
 
     size_t written = run("office", scheme, sizeof scheme, matrix, sizeof matrix, requests, length, after);
-    print_cells("office's matrix afterwards", after, written);
+    print_matrix("office's matrix afterwards", after, written);
     run("office, with the list cut", scheme, sizeof scheme, matrix, sizeof matrix, requests, length - 1, after);
 
     size_t robot_scheme_length =
@@ -118,12 +152,14 @@ int main(void) {
     size_t robot_matrix_length = must("robot's matrix", slushferret_convert_matrix(scheme, sizeof scheme, matrix, sizeof matrix, robot_matrix,
                                                                                    sizeof robot_matrix, report, SLUSHFERRET_REPORT));
     printf("robot's scheme, %zu bytes\n", robot_scheme_length);
-    print_cells("robot's matrix", robot_matrix, robot_matrix_length);
+    print_matrix("robot's matrix", robot_matrix, robot_matrix_length);
 
     written = run("robot", robot_scheme, robot_scheme_length, robot_matrix, robot_matrix_length, requests, length, after);
-    print_cells("robot's matrix afterwards", after, written);
+    print_matrix("robot's matrix afterwards", after, written);
 
     must_refuse("robot's scheme into 54 bytes", slushferret_convert_scheme(scheme, sizeof scheme, robot_scheme, 54, report, SLUSHFERRET_REPORT),
                 SLUSHFERRET_ROOM);
+
+    run_keys(after);
     return EXIT_SUCCESS;
 }

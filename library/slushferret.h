@@ -30,7 +30,7 @@ extern "C" {
 
 /* The version of what stands here: it moves when a format or a function's meaning moves. slushferret_version gives that of
  * the archive; a program that compares the two knows that header and archive belong together. */
-#define SLUSHFERRET_VERSION 4
+#define SLUSHFERRET_VERSION 5
 
 /* the slots of a report */
 enum {
@@ -61,7 +61,7 @@ enum {
     SLUSHFERRET_BODY = 3,            /* the body ends inside a field, or has bytes after its last field */
     SLUSHFERRET_COUNT = 4,           /* a count outside its range; more than 8 ids in a request to write */
     SLUSHFERRET_RANGE = 5,           /* a right, type or parameter out of the scheme's range, a cell's id that no thing has */
-    SLUSHFERRET_FORM = 6,            /* a fault of form */
+    SLUSHFERRET_FORM = 6,            /* a fault of form; a thing's id above the highest that the head states */
     SLUSHFERRET_ORDER = 7,           /* a thing's id or a cell's place not above the one before */
     SLUSHFERRET_BEHIND = 8,          /* bytes after the last command of a scheme */
     SLUSHFERRET_ROOM = 9,            /* answers or out is too short */
@@ -70,7 +70,7 @@ enum {
     SLUSHFERRET_NO_THING = 12,       /* an id 0, or of no thing */
     SLUSHFERRET_OTHER_TYPE = 13,     /* a thing of another type */
     SLUSHFERRET_TEST = 14,           /* a test is false; the answer says which */
-    SLUSHFERRET_TAKEN = 15,          /* a create of an id that exists */
+    SLUSHFERRET_TAKEN = 15,          /* a create of an id that isn't above the highest that the matrix ever had */
     SLUSHFERRET_FULL = 16,           /* a create when 48 things exist */
     SLUSHFERRET_GONE = 17,           /* a destroy of a thing already gone */
     SLUSHFERRET_CHANGES_THINGS = 20, /* conversion: a command creates or destroys */
@@ -83,10 +83,10 @@ enum {
 enum {
     SLUSHFERRET_SCHEME_HEAD = 1,
     SLUSHFERRET_COMMAND = 2,
-    SLUSHFERRET_MATRIX_HEAD = 3,
     SLUSHFERRET_THING = 4,
     SLUSHFERRET_CELL = 5,
-    SLUSHFERRET_REQUEST = 6
+    SLUSHFERRET_REQUEST = 6,
+    SLUSHFERRET_MATRIX_HEAD = 7
 };
 
 /* the limits of the outline */
@@ -104,9 +104,13 @@ enum {
 /* Room for the longest of each: no scheme, matrix or request has more bytes. */
 enum {
     SLUSHFERRET_SCHEME_BYTES = 6633,
-    SLUSHFERRET_MATRIX_BYTES = 37206,
+    SLUSHFERRET_MATRIX_BYTES = 37208,
     SLUSHFERRET_REQUEST_BYTES = 22
 };
+
+/* Where in a matrix's bytes the highest id stands that it ever had: two bytes, the low one first. Ids up to it are never
+ * created again, so a new key gets one above it. */
+enum { SLUSHFERRET_HIGHEST_AT = 6 };
 
 /* An answer to a request in the lent buffer: which of its bytes says what. */
 enum {

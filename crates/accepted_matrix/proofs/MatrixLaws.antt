@@ -13,16 +13,12 @@ use lib.Dec.{T, eqb, eqb-refl, not-T}
 use lib.ListN.{length, getD}
 use lib.Seq.{take-all}
 use lib.Pow.{pow-pos}
-use mir.Syntax.{w16}
-use mir.Val.{Fits}
-use borrow.Author.Tests.{lt-ltb, le-leb, eqb-true, eqb-false, ne-eqb}
+use borrow.Author.Tests.{lt-ltb, eqb-true, eqb-false, ne-eqb}
 use Rattle.rights.specs.Sets.{within}
-use Rattle.rights.specs.Numberings.{zeroType, typeBelow}
 use Rattle.laws.proofs.Bools.{is-true, is-false, and-right, and-both}
 use Rattle.laws.proofs.Walks.{Walk, start, on, end}
-use Rattle.model.specs.Scheme.{noType}
 use Rattle.model.specs.Seats.{among, find, thingIn}
-use Rattle.model.specs.Accepted.{apart, zeroThing, acceptedSeat, allFrom, standing, acceptedPlaces}
+use Rattle.model.specs.Accepted.{apart, acceptedSeat, allFrom, standing, acceptedPlaces}
 use Rattle.model.specs.declared.Head.{Head}
 use Rattle.model.specs.declared.Things.{Things}
 use Rattle.model.proofs.Find.{find-lt, find-is, among-get}
@@ -112,12 +108,6 @@ module _ (f : ℕ → Bool) where
     pub seats-end : 48 ≤ i → b ≡ allFrom f 0 48
     unfolding allFrom
     seats-end h = let k : 48 - i ≡ 0 = omega arith in sym (and-true b) ∙ (rw k at (s .left))
-
--- an id is at most 65535 because it is a u16
-pub seat-is : (h : Head) (th : Things) (i : ℕ) → Fits w16 (getD (th .ids) i 0)
-    → cond (eqb (getD (th .ids) i 0) 0) (zeroType (getD (th .types) i noType)) (typeBelow (getD (th .types) i noType) (h .types)) ≡ seatFine h th i
-unfolding acceptedSeat zeroThing thingIn
-seat-is h th i l = rw (le-leb (getD (th .ids) i 0) 65535 (omega arith))
 
 -- ---- the places, with the answer so far
 abbrev placesFrom : Head → Things → Bool → ℕ → List ℕ → Bool

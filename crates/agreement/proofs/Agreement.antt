@@ -39,7 +39,7 @@ use Rattle.scheme_bytes.specs.Answers.{readScheme}
 use Rattle.scheme_bytes.specs.Write.{writeScheme}
 use Rattle.scheme_bytes.proofs.FunctionTrips.{function-trips as scheme-trips}
 use Rattle.matrix_bytes.specs.Answers.{readMatrix}
-use Rattle.matrix_bytes.specs.FunctionTrips.{reseated}
+use Rattle.matrix_bytes.specs.Content.{reseated}
 use Rattle.matrix_bytes.specs.Write.{matrixBytes, writeMatrix}
 use Rattle.matrix_bytes.specs.declared.answers.MatrixAnswer.{MatrixAnswer}
 use Rattle.matrix_bytes.proofs.FunctionTrips.{function-trips as matrix-trips}
@@ -195,7 +195,7 @@ module _ (s : Scheme) (ok : T (acceptedScheme s)) (can : T (convertible s)) wher
 
 -- what the robot has read
 abbrev pub robotOf : Scheme → Matrix → Matrix
-robotOf s m = reseated (convertScheme s) (convertMatrix (s .head) m)
+robotOf s m = reseated (convertScheme s .head) (convertMatrix (s .head) m)
 
 module _ (s : Scheme) (m : Matrix) (ok : T (acceptedScheme s)) (of : T (acceptedMatrix (s .head) m)) (can : T (convertible s)) where
   abbrev new : Scheme

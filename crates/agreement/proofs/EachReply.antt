@@ -30,7 +30,7 @@ use Rattle.agreement.specs.EachReply.{EachReply}
 use Rattle.agreement.proofs.Agreement.{asked, room, ended-so, replied, list-room}
 use Rattle.agreement.proofs.LibraryRuns.{call-held, had-room, count-told}
 
-accepted : (s : Scheme) (m : Matrix) → (acceptedScheme s && acceptedMatrix (s .head) m) ≡ true → T (acceptedScheme s) × T (acceptedMatrix (s .head) m)
+pub accepted : (s : Scheme) (m : Matrix) → (acceptedScheme s && acceptedMatrix (s .head) m) ≡ true → T (acceptedScheme s) × T (acceptedMatrix (s .head) m)
 accepted s m e =
     let both : T (acceptedScheme s && acceptedMatrix (s .head) m) = rw e tt in
     (and-left (acceptedScheme s) _ both, and-right (acceptedScheme s) _ both)

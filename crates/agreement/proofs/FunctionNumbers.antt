@@ -34,7 +34,7 @@ use Rattle.records.specs.declared.Writing.{Writing}
 use Rattle.records.specs.declared.Writing.the-variants as writing
 use Rattle.records.proofs.Faults.{fine, passedRecord}
 use Rattle.command_bytes.specs.Answers.{asHeadAt, asCommandAt, ofHeadAt}
-use Rattle.matrix_records.specs.Content.{ThingRecord, CellRecord}
+use Rattle.matrix_records.specs.Content.{Stated, ThingRecord, CellRecord}
 use Rattle.matrix_records.specs.Read.{head}
 use Rattle.matrix_records.specs.Answers as matrix-records
 use Rattle.matrix_records.specs.Answers.{asThingAt, asCellAt}
@@ -83,8 +83,8 @@ module _ (ok : ℕ → Bool) (none-passes : T (ok 0)) where
   of-command (got c next) t = none-passes
   of-command (fault f) t = t
 
-  pub of-matrix-head : (kind : ℕ) (r : Read ℕ Refusal ℕ) → T (fine (λ f. ok (f .number)) r) → T (ok (ofHead (matrix-records.asHeadAt kind r) .number))
-  of-matrix-head kind (got n next) t = none-passes
+  pub of-matrix-head : (kind : ℕ) (r : Read ℕ Refusal Stated) → T (fine (λ f. ok (f .number)) r) → T (ok (ofHead (matrix-records.asHeadAt kind r) .number))
+  of-matrix-head kind (got st next) t = none-passes
   of-matrix-head kind (fault f) t = t
 
   pub of-thing : (kind : ℕ) (r : Read ℕ Refusal ThingRecord) → T (fine (λ f. ok (f .number)) r) → T (ok (ofThing (asThingAt kind r) .number))

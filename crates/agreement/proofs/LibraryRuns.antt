@@ -21,16 +21,18 @@ use Rattle.records.specs.declared.Reading.{Reading}
 use Rattle.records.specs.declared.Reading.the-variants as reading
 use Rattle.records.proofs.PlacedLaws.{take-through-placed}
 use Rattle.matrix_bytes.specs.Answers.{readMatrix}
-use Rattle.matrix_bytes.specs.FunctionTrips.{reseated}
+use Rattle.matrix_bytes.specs.Content.{reseated}
 use Rattle.matrix_bytes.proofs.ReadMatrix.{by-head}
 use Rattle.matrix_bytes.proofs.RoundTrips.{round-trips}
+use Rattle.matrix_bytes.proofs.AcceptedTrip.{accepted-iff-read}
 use Rattle.request_list.specs.List.{Listed, readList}
 use Rattle.engine.specs.List.{Result, runAnswer, repliesTo, runOn}
 use Rattle.engine.specs.declared.answers.RunAnswer.{RunAnswer}
 use Rattle.engine.specs.declared.answers.RunAnswer.the-variants as ended
 use Rattle.robot.specs.Library.{Called, Ran, bytesAfter, endedBy, notRun, runMatrix, runAgainst, runBytes}
 use Rattle.robot.specs.Inner.Parts.{endingBy}
-use Rattle.robot.proofs.RunLaws.{read-accepted, all-kept, always-fits, ended-told}
+use Rattle.model.proofs.Joined.{run-kept}
+use Rattle.robot.proofs.RunLaws.{read-accepted, always-fits, ended-told}
 use Rattle.robot.proofs.CallLaws.{scheme-accepted}
 use Rattle.agreement.specs.LibraryAgrees.{stored, written, besidesWritten, matrixAfter, Bytes, HasRoom, IsScheme, IsMatrix, AllCarriedOut}
 use Rattle.agreement.specs.Agreement.{leftBy, CarriedOut}
@@ -43,6 +45,8 @@ pub record AsRun (s : Scheme) (c : Ran) (r : Result) : Type 0 where
   pub called : c .called ≡ endingBy size (r .ran .answer)
   pub answers : c .answers ≡ r .replies
   pub left : c .called .number ≡ 0 → (end : Matrix) × IsMatrix (matrixAfter c) s end × (standsFor end ≡ leftBy r)
+  -- and those are bytes, so that the next call may be handed them
+  pub small : c .called .number ≡ 0 → Bytes (matrixAfter c)
 
 -- ---- of accepted ones, where there is room for the matrix
 written-ended : (count size : ℕ) (e : Reading) → written (endedBy count size e) ≡ size
@@ -64,11 +68,15 @@ module _ (s : Scheme) (m : Matrix) (ok : T (acceptedScheme s)) (of : T (accepted
   end = run seats s m (list .requests)
 
   end-ok : T (acceptedMatrix (s .head) end)
-  end-ok = all-kept s ok m (list .requests) of
+  end-ok = run-kept s m (list .requests) ok of
 
-  reads-after : IsMatrix after s (reseated s end)
+  reads-after : IsMatrix after s (reseated (s .head) end)
   unfolding bytesAfter readMatrix
   reads-after = rw (is-true (acceptedScheme s) ok, round-trips .there s end ok end-ok)
+
+  small-after : Bytes after
+  unfolding bytesAfter
+  small-after = accepted-iff-read .reads s end ok end-ok .1
 
   module _ (inside : length after ≤ length out) where
     stood : take (length after) (placed out 0 after) ≡ after
@@ -91,12 +99,13 @@ module _ (s : Scheme) (m : Matrix) (ok : T (acceptedScheme s)) (of : T (accepted
       called = sym (ended-told (length (list .requests)) (length after) (list .ending));
       answers = refl;
       left = λ z. (
-        reseated s end,
+        reseated (s .head) end,
         rw (written-ended (length (list .requests)) (length after) (list .ending), stood) reads-after,
         round-trips .sameContent s end ok end-ok,
       );
+      small = λ z. rw (written-ended (length (list .requests)) (length after) (list .ending), stood) small-after;
     }
-    as-run-if false = record { size = 0; called = refl; answers = refl; left = λ z. absurd (omega arith) }
+    as-run-if false = record { size = 0; called = refl; answers = refl; left = λ z. absurd (omega arith); small = λ z. absurd (omega arith) }
 
     as-run : AsRun s (runMatrix s m list results out) (runOn s m requests results)
     unfolding runMatrix

@@ -153,10 +153,10 @@ numbers = record {
       let read = inRecord bytes kinds (λ kind. head h) at in
       let fine-read = matrix-head-only ok tt tt tt tt h bytes kinds tt at in
       of-matrix-head ok tt (kindAt bytes at) (against (acceptedHead h) read) (against-head ok tt (acceptedHead h) read fine-read);
-  aThing = λ bytes at kinds h last.
+  aThing = λ bytes at kinds h highest last.
       let ok = oneOf (27 ∷ ofAPart) in
-      let read = inRecord bytes kinds (λ kind. thing h last) at in
-      let fine-read = matrix-thing-only ok tt tt tt tt h bytes kinds tt tt last at in
+      let read = inRecord bytes kinds (λ kind. thing h highest last) at in
+      let fine-read = matrix-thing-only ok tt tt tt tt h bytes kinds tt tt highest last at in
       of-thing ok tt (kindAt bytes at) (against (acceptedHead h) read) (against-head ok tt (acceptedHead h) read fine-read);
   aCell = λ bytes at kinds h th n last.
       let ok = oneOf (27 ∷ ofAPart) in

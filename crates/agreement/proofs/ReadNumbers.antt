@@ -29,10 +29,10 @@ use Rattle.command_bytes.specs.Read as scheme-records
 use Rattle.command_bytes.specs.Read.{named, thing, test, codeOf, byCode, operation, typeIn, typesIn, testsIn, operationsIn, commandFrom, command, headAt, commandAt}
 use Rattle.scheme_bytes.specs.Read.{commands, atEnd, schemeRest, scheme}
 use Rattle.scheme_bytes.specs.Answers.{asScheme, readScheme}
-use Rattle.matrix_records.specs.Content.{ThingRecord, CellRecord}
+use Rattle.matrix_records.specs.Content.{Stated, ThingRecord, CellRecord}
 use Rattle.matrix_records.specs.Read as matrix-records
 use Rattle.matrix_records.specs.Read.{thingWith, isRow, above, cell, start}
-use Rattle.matrix_bytes.specs.Read.{toEnd, matrix}
+use Rattle.matrix_bytes.specs.Read.{toEnd, rest, matrix}
 use Rattle.matrix_bytes.specs.Answers.{asMatrix}
 use Rattle.request_bytes.specs.Read.{idsIn, request, requestAt, noRequest, asRequest, readRequest}
 use Rattle.request_bytes.specs.declared.answers.Request.{Request}
@@ -128,16 +128,18 @@ module _ (ok : ℕ → Bool) (three : T (ok 3)) (six : T (ok 6)) (h : Head) wher
   matrix-head-body four =
       a-field ok three 1 65 4 four _ (λ n.
       a-check ok three (eqb n (h .rights)) 6 six _ (
-      only-field ok three 0 49 4 four))
+      a-field ok three 0 49 4 four _ (λ count.
+      a-number ok three 2 _ (λ highest i. tt))))
 
   module _ (five : T (ok 5)) (seven : T (ok 7)) where
-    thing-body : (last : ℕ) → Only ok (matrix-records.thing h last)
+    thing-body : (highest last : ℕ) → Only ok (matrix-records.thing h highest last)
     unfolding matrix-records.thing
-    thing-body last =
+    thing-body highest last =
         a-number ok three 2 _ (λ id.
         a-check ok three (not (eqb id 0)) 6 six _ (
         a-check ok three (ltb last id) 7 seven _ (
-        a-field ok three 0 (h .types) 5 five _ (λ t i. tt))))
+        a-check ok three (leb id highest) 6 six _ (
+        a-field ok three 0 (h .types) 5 five _ (λ t i. tt)))))
 
     cell-body : (things : List ThingRecord) (last : CellRecord) → Only ok (cell h things last)
     unfolding cell
@@ -163,8 +165,9 @@ module _ (ok : ℕ → Bool) (one : T (ok 1)) (two : T (ok 2)) (three : T (ok 3)
   matrix-head-only four = only-record ok one two three s kinds (λ kind. matrix-records.head h) (λ kind. matrix-head-body ok three six h four)
 
   module _ (five : T (ok 5)) (seven : T (ok 7)) where
-    pub matrix-thing-only : (last : ℕ) → Only (λ f. ok (f .number)) (inRecord s kinds (λ kind. matrix-records.thing h last))
-    matrix-thing-only last = only-record ok one two three s kinds (λ kind. matrix-records.thing h last) (λ kind. thing-body ok three six h five seven last)
+    pub matrix-thing-only : (highest last : ℕ) → Only (λ f. ok (f .number)) (inRecord s kinds (λ kind. matrix-records.thing h highest last))
+    matrix-thing-only highest last =
+        only-record ok one two three s kinds (λ kind. matrix-records.thing h highest last) (λ kind. thing-body ok three six h five seven highest last)
 
     pub matrix-cell-only : (things : List ThingRecord) (last : CellRecord) → Only (λ f. ok (f .number)) (inRecord s kinds (λ kind. cell h things last))
     matrix-cell-only things last = only-record ok one two three s kinds (λ kind. cell h things last) (λ kind. cell-body ok three six h five seven things last)
@@ -214,23 +217,27 @@ module _ (ok : ℕ → Bool) (one : T (ok 1)) (two : T (ok 2)) (three : T (ok 3)
             let more = only-then told (p st) _ (each st) (λ a. only-then told (toEnd s p next fuel (next st a)) _ (to-end fuel (next st a)) (λ xs i. tt)) at in
             either ok (eqb at (length s)) _ _ tt more
 
-      abbrev matrixHead : Reader ℕ Refusal ℕ
-      matrixHead = inRecord s 8 (λ kind. matrix-records.head h)
+      abbrev matrixHead : Reader ℕ Refusal Stated
+      matrixHead = inRecord s 128 (λ kind. matrix-records.head h)
 
-      abbrev thingAt : ℕ → Reader ℕ Refusal ThingRecord
-      thingAt last = inRecord s 16 (λ kind. matrix-records.thing h last)
+      abbrev thingAt : ℕ → ℕ → Reader ℕ Refusal ThingRecord
+      thingAt highest last = inRecord s 16 (λ kind. matrix-records.thing h highest last)
 
       abbrev cellAt : List ThingRecord → CellRecord → Reader ℕ Refusal CellRecord
       cellAt things last = inRecord s 32 (λ kind. cell h things last)
 
+      matrix-rest-only : (highest count : ℕ) → Only told (rest h highest count s)
+      unfolding rest
+      matrix-rest-only highest count =
+          only-then told (steps (thingAt highest) (λ last t. t .id) count 0) _
+          (only-steps told (thingAt highest) (λ last t. t .id) (matrix-thing-only ok one two three six h s 16 five seven highest) count 0) (λ things.
+          only-then told (toEnd s (cellAt things) (λ last c. c) (length s) start) _
+          (to-end (cellAt things) (λ last c. c) (matrix-cell-only ok one two three six h s 32 five seven things) (length s) start) (λ cells i. tt))
+
       matrix-fine : Only told (matrix h s)
       unfolding matrix
       matrix-fine =
-          only-then told matrixHead _ (matrix-head-only ok one two three six h s 8 four) (λ count.
-          only-then told (steps thingAt (λ last t. t .id) count 0) _
-          (only-steps told thingAt (λ last t. t .id) (matrix-thing-only ok one two three six h s 16 five seven) count 0) (λ things.
-          only-then told (toEnd s (cellAt things) (λ last c. c) (length s) start) _
-          (to-end (cellAt things) (λ last c. c) (matrix-cell-only ok one two three six h s 32 five seven things) (length s) start) (λ cells i. tt)))
+          only-then told matrixHead _ (matrix-head-only ok one two three six h s 128 four) (λ stated. matrix-rest-only (stated .highest) (stated .count))
 
       pub matrix-only : (things : Things) (cells : List ℕ) → T (passed ok (asMatrix things cells (matrix h s 0) .0 .answer))
       matrix-only things cells = by (matrix h s 0) (matrix-fine 0)

@@ -31,9 +31,12 @@ use Rattle.engine.specs.declared.answers.RunAnswer.the-variants.{Whole, Refused
 use Rattle.convert.specs.Convert.{convertSchemeInto, convertMatrixInto}
 use Rattle.agreement.specs.Replies.{ToEach, obeyedBy, besidesSteps}
 
--- the papers' matrix that a run left in memory
+-- the matrix that a run left in memory, and the papers' matrix that it stands for
+abbrev pub leftIn : Result → Matrix
+leftIn r = record { things = r .ran .things; cells = r .cells }
+
 unfoldable pub leftBy : Result → State
-leftBy r = standsFor (record { things = r .ran .things; cells = r .cells })
+leftBy r = standsFor (leftIn r)
 
 -- these requests of a scheme were run, and each was carried out: the list came to its end after as many, and as many replies that say so, with the steps
 -- of all its tests and operations, were stored. (A run that was refused as a whole has another answer.)

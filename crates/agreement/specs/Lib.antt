@@ -1,5 +1,5 @@
 -- Demand 3 of the functions (`Agreement`) and of the robots' library (`LibraryAgrees`); which test stopped a request, and how many steps it took, of both
--- (`WhichTest`, `HowManySteps`); the numbers that each function can give (`Numbers`); the starred examples of the outline, all in one statement
+-- (`WhichTest`, `HowManySteps`), and that no id is created twice (`NeverAgain`); the numbers that each function can give (`Numbers`); the starred examples of the outline, all in one statement
 -- (`Starred`); and wrong programs that these catch (`WrongPrograms`).
 pub mod Replies
 pub mod Agreement
@@ -7,6 +7,7 @@ pub mod LibraryAgrees
 pub mod EachReply
 pub mod WhichTest
 pub mod HowManySteps
+pub mod NeverAgain
 pub mod Numbers
 pub mod Starred
 pub mod WrongPrograms

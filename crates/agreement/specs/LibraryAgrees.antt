@@ -47,7 +47,7 @@ abbrev pub Bytes : List ℕ → Type 0
 Bytes bs = (i : ℕ) → getD bs i 0 < 256
 
 abbrev pub HasRoom : List ℕ → Type 0
-HasRoom out = 37206 ≤ length out
+HasRoom out = 37208 ≤ length out
 
 -- ---- what bytes are: those of this scheme, and of this matrix of it, as every call reads them
 abbrev pub IsScheme : List ℕ → Scheme → Type 0

@@ -90,7 +90,7 @@ pub record Numbers : Type 0 where
   pub aScheme : (bytes : List ℕ) (held : Scheme) → Gives ofAScheme (ofReading (readScheme bytes held .answer) .number)
   pub anyRecord : (bytes : List ℕ) (at : ℕ) → Gives (1 ∷ []) (ofRecord (anyRecordAt bytes at) .number)
   pub aMatrixHead : (bytes : List ℕ) (at kinds : ℕ) (h : Head) → Gives (27 ∷ ofAHead) (ofHead (matrix-records.readHead bytes at kinds h) .number)
-  pub aThing : (bytes : List ℕ) (at kinds : ℕ) (h : Head) (last : ℕ) → Gives (27 ∷ ofAPart) (ofThing (readThing bytes at kinds h last) .number)
+  pub aThing : (bytes : List ℕ) (at kinds : ℕ) (h : Head) (highest last : ℕ) → Gives (27 ∷ ofAPart) (ofThing (readThing bytes at kinds h highest last) .number)
   pub aCell : (bytes : List ℕ) (at kinds : ℕ) (h : Head) (th : Things) (n : ℕ) (last : CellRecord) →
       Gives (27 ∷ ofAPart) (ofCell (readCell bytes at kinds h th n last) .number)
   pub aMatrix : (bytes : List ℕ) (s : Scheme) (things : Things) (cells : List ℕ) →

@@ -23,12 +23,12 @@ pub record Mirror (n office robot : ℕ) : Type 0 where
   pub plain : (r : ℕ) → r < n → has robot r ≡ has office r
   pub partner : (r : ℕ) → r < n → has robot (r + n) ≡ not (has office r)
 
--- the same things, and so it is in every cell that exists
+-- the same things, the highest id that there ever was among what is the same, and so it is in every cell that exists
 pub record Mirrors (h : Head) (office robot : State) : Type 0 where
   pub sameThings : robot .things ≡ office .things
   pub mirror : (x y : ℕ) → T (cellExists h office x y) → Mirror (h .rights) (office .rights x y) (robot .rights x y)
 
--- the same things, and no entry that the richer lacks
+-- the same things with the same highest id, and no entry that the richer lacks
 pub record Within (poorer richer : State) : Type 0 where
   pub sameThings : poorer .things ≡ richer .things
   pub entries : (x y r : ℕ) → T (has (poorer .rights x y) r) → T (has (richer .rights x y) r)

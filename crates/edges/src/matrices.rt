@@ -1,4 +1,4 @@
-// The tasks 10 to 16, which change the things or are lent the cells: a matrix is read, set, copied or converted, and a request planned.
+// The tasks 10 to 17, which change the things or are lent the cells: a matrix is read, set, copied or converted, and a request planned.
 use crate::case;
 use crate::plans;
 use crate::print;
@@ -35,11 +35,19 @@ fn copy(b: &[u8], at: usize, th: Things, cells: &mut [u64]) -> Things {
     th
 }
 
+// So that an id can stand above it, which no function makes.
+fn set_highest(th: Things, at: usize) -> Things {
+    let mut next = th;
+    next.highest = (at % 65536) as u16;
+    next
+}
+
 // The tasks that need no cells.
 fn alone(task: u8, b: &[u8], at: usize, s: Scheme, th: Things) -> Things {
     match task {
         14 => things::no_things(),
         15 => plans::task(b, at, s, th),
+        17 => set_highest(th, at),
         _ => things::put_thing(th, at, case::two_at(b, 0), ThingType(case::one_at(b, 2))),
     }
 }

@@ -19,22 +19,35 @@ fn scheme_head(b: &[u8], at: usize) {
     }
 }
 
-// ---- of a matrix: before the bytes stand the kinds, the id of the row or of the thing before, that of the column, and how many things there are
+// ---- of a matrix: before the bytes stand the kinds, the id of the row or of the thing before, that of the column, how many things there are, and the highest
+// id that the head states
 
 fn head(b: &[u8], at: usize, h: Head) {
     let kinds = Kinds(case::two_at(b, 0));
-    let answer = matrix_records::read_head(records::body(b, 14, 65536), at, kinds, h);
+    let answer = matrix_records::read_head(records::body(b, 16, 65536), at, kinds, h);
     print::pair(answer.number(), answer.at());
-    if let matrix_records::HeadAt::Good { kind, count, next } = answer {
-        print::number(kind as u64);
-        print::pair(count, next);
+    if let matrix_records::HeadAt::Good {
+        kind,
+        count,
+        highest,
+        next,
+    } = answer {
+        print::numbers(&[kind as u64, count as u64, highest as u64, next as u64]);
     }
 }
 
 fn thing(b: &[u8], at: usize, h: Head) {
     let kinds = Kinds(case::two_at(b, 0));
     let last = case::two_at(b, 2);
-    let answer = matrix_records::read_thing(records::body(b, 14, 65536), at, kinds, h, last);
+    let highest = case::two_at(b, 14);
+    let answer = matrix_records::read_thing(
+        records::body(b, 16, 65536),
+        at,
+        kinds,
+        h,
+        highest,
+        last,
+    );
     print::pair(answer.number(), answer.at());
     if let ThingAt::Good { kind, id, of, next } = answer {
         print::number(kind as u64);
@@ -45,7 +58,7 @@ fn thing(b: &[u8], at: usize, h: Head) {
 
 fn cell(b: &[u8], at: usize, h: Head, th: Things) {
     let answer = matrix_records::read_cell(
-        records::body(b, 14, 65536),
+        records::body(b, 16, 65536),
         at,
         Kinds(case::two_at(b, 0)),
         h,

@@ -49,7 +49,7 @@ fn things(th: Things) -> u64 {
     sum
 }
 
-// The matrix that the cases share.
+// The matrix that the cases share: the things, the highest id, the cells.
 pub(crate) fn matrix(th: Things, all: &[u64]) -> u64 {
-    cells(things(th), all)
+    cells(add(things(th), th.highest as u64), all)
 }

@@ -19,12 +19,12 @@ use Rattle.model.specs.declared.Head.{Head}
 use Rattle.model.specs.declared.Things.{Things}
 use Rattle.laws.proofs.Bools.{is-true}
 use Rattle.model.proofs.Held.{Held}
-use Rattle.model.proofs.HeldLaws.{seat-small, seat-typed, seat-ok, held, accepted}
+use Rattle.model.proofs.HeldLaws.{seat-below, seat-typed, seat-ok, held, accepted}
 use Rattle.model.proofs.Find.{find-lt, among-get, seat-is, some-known, some-thing, known-is, seat-lt}
 use Rattle.records.specs.Bytes.{littleEndian, recordBytes}
 use Rattle.records.proofs.Trip.{Bytes}
 use Rattle.records.proofs.Below.{Below, below-bytes, below-append, below-number, below-record}
-use Rattle.matrix_records.specs.Content.{ThingRecord, CellRecord}
+use Rattle.matrix_records.specs.Content.{Stated, ThingRecord, CellRecord}
 use Rattle.matrix_records.specs.Write.{headBytes, thingBytes, cellBytes}
 use Rattle.matrix_records.proofs.Trips.{Sized}
 use Rattle.matrix_bytes.specs.Content.{thingsOf, cellsOf}
@@ -57,11 +57,12 @@ module _ (h : Head) (z : Sized h) where
   matrix-below : (m : Matrix) → Held h m → Bytes (matrixBytes h m)
   unfolding matrixBytes headBytes
   matrix-below m ok =
-      let front : List ℕ = headBytes (h .rights) (length (thingsOf m)) in
-      let first : Below front = (omega (arith, z .rights), (omega (arith, things-few h m ok), tt)) in
+      let stated : Stated = record { count = length (thingsOf m); highest = m .things .highest } in
+      let front : List ℕ = headBytes (h .rights) stated in
+      let first : Below front = (omega (arith, z .rights), (omega (arith, things-few h m ok), below-number 2 _)) in
       below-bytes (matrixBytes h m)
-      (below-append (recordBytes 3 front ++ things (thingsOf m)) (cells (cellsOf h m))
-      (below-append (recordBytes 3 front) (things (thingsOf m)) (below-record 3 front first) (things-below 0 (thingsOf m) (things-rising h m ok)))
+      (below-append (recordBytes 7 front ++ things (thingsOf m)) (cells (cellsOf h m))
+      (below-append (recordBytes 7 front) (things (thingsOf m)) (below-record 7 front first) (things-below 0 (thingsOf m) (things-rising h m ok)))
       (cells-below (cellsOf h m)))
 
 -- ---- an accepted matrix is tidy
@@ -134,6 +135,10 @@ module _ (h : Head) (m read : Matrix) (tidy : Tidy m) (ok : Held h read) (same :
   abbrev there-seat : ℕ → ℕ
   there-seat i = seat (read .things) (id i)
 
+  same-highest : read .things .highest ≡ m .things .highest
+  unfolding standsFor paperThings
+  same-highest = ap (λ p. p .things .highest) same
+
   -- who sits at i is a thing of the other, of the same type
   module _ (i : ℕ) (nz : getD (m .things .ids) i 0 ≢ 0) where
     found : thingAt (read .things) (id i) ≡ some (thingIn (m .things) i)
@@ -156,9 +161,9 @@ module _ (h : Head) (m read : Matrix) (tidy : Tidy m) (ok : Held h read) (same :
     found-seat : T (acceptedSeat h (m .things) (id i) (thingIn (m .things) i))
     found-seat =
         let t = ok .things .seat (there-seat i) found-low in
-        let small : id i ≤ 65535 = rw found-id at (seat-small h (read .things) _ _ t) in
+        let below : id i ≤ m .things .highest = rw (found-id, same-highest) at (seat-below h (read .things) _ _ t) in
         let typed : thingIn (m .things) i .type .0 < h .types = rw found-thing at (seat-typed h (read .things) _ _ t (λ e. nz (sym found-id ∙ e))) in
-        seat-ok h (m .things) (id i) (thingIn (m .things) i) nz small typed
+        seat-ok h (m .things) (id i) (thingIn (m .things) i) nz below typed
 
   -- the cell of two of them is the other's
   found-cell : (i j : ℕ) → id i ≢ 0 → id j ≢ 0 → getD (m .cells) (i * 48 + j) 0 ≡ getD (read .cells) (there-seat i * 48 + there-seat j) 0
@@ -194,6 +199,7 @@ module _ (h : Head) (m read : Matrix) (tidy : Tidy m) (ok : Held h read) (same :
     things = record {
       idRoom = tidy .idRoom;
       typeRoom = tidy .typeRoom;
+      reach = rw same-highest at (ok .things .reach);
       apart = tidy .apart;
       seat = λ i l. by-thing (T (acceptedSeat h (m .things) (id i) (thingIn (m .things) i))) i (λ e. free-seat h (m .things) _ _ (tidy .free i l e) e) (found-seat i);
     };

@@ -13,7 +13,7 @@ use Rattle.model.specs.Accepted.{acceptedHead, acceptedScheme}
 use Rattle.model.specs.declared.Head.{Head}
 use Rattle.model.specs.declared.Scheme.{Scheme}
 use Rattle.model.specs.declared.Things.{Things}
-use Rattle.laws.proofs.Bools.{is-true, from-true}
+use Rattle.laws.proofs.Bools.{is-true}
 use Rattle.records.specs.Reading.{Read, got, fault, bind, done}
 use Rattle.records.specs.Front.{Refusal, inRecord}
 use Rattle.records.proofs.Trip.{Bytes}
@@ -24,7 +24,7 @@ use Rattle.matrix_records.proofs.Listed.{listed-near}
 use Rattle.matrix_records.proofs.Trips.{CellOk, row-thing, head-sized}
 use Rattle.matrix_records.proofs.ReadBack.{refusal}
 use Rattle.matrix_bytes.specs.Content.{thingsFrom, store, storeAll, matrixFrom}
-use Rattle.matrix_bytes.specs.Read.{toEnd, matrix}
+use Rattle.matrix_bytes.specs.Read.{toEnd, rest, matrix}
 use Rattle.matrix_bytes.specs.Answers.{asMatrix, readMatrix, readMatrixByHead}
 use Rattle.matrix_bytes.specs.Inner.Parts.{refusedAt, cellsFrom, storedIn, finished}
 use Rattle.matrix_bytes.specs.declared.answers.MatrixAnswer.{MatrixAnswer}
@@ -34,7 +34,7 @@ use Rattle.matrix_bytes.proofs.Spots.EachCell.{no as no-cell, also}
 use Rattle.matrix_bytes.proofs.Trips.{cells-back}
 use Rattle.matrix_bytes.proofs.Rising.{taken-rising}
 use Rattle.matrix_bytes.proofs.RoundTrips.{head-passes}
-use Rattle.matrix_bytes.proofs.ReadThings.{headRead, thingsRead, head-few, things-end}
+use Rattle.matrix_bytes.proofs.ReadThings.{headRead, thingsRead, things-end}
 
 -- ---- the cells of a matrix stand where its things' seats say
 
@@ -65,6 +65,42 @@ module _ (h : Head) (th : Things) (n : ℕ) (room : length (th .ids) ≡ 48) whe
   stored-all no-cell cells = refl
   stored-all (also {c = c} p q) cells = rw (same-place c p) (stored-all q (store th cells c))
 
+-- ---- what stands behind a head
+module _ (s : List ℕ) (h : Head) (things : Things) (cells : List ℕ) (highest count at : ℕ) where
+  abbrev behind : MatrixAnswer × List ℕ
+  behind = asMatrix things cells (rest h highest count s at)
+
+  pub rest-no-things : (k q : ℕ) (m : MatrixAnswer) → m ≡ refusedAt things k q → thingsRead s h highest count at ≡ fault (refusal k q) →
+      _≡_ {A = MatrixAnswer × List ℕ} (m, cells) behind
+  unfolding rest
+  rest-no-things k q m em f = rw (em, f)
+
+  module _ (ts : List ThingRecord) (next : ℕ) (f : thingsRead s h highest count at ≡ got ts next) where
+    abbrev its : Things
+    its = thingsFrom highest ts
+
+    abbrev cellsOn : List ThingRecord → Read ℕ Refusal (List CellRecord)
+    cellsOn ts = toEnd s (λ last. inRecord s 32 (λ kind. cell h ts last)) (λ last c. c) (length s) start next
+
+    same-answer : (m : Read ℕ Refusal (List CellRecord)) →
+        ((cs : List CellRecord) (j : ℕ) → m ≡ got cs j → storedIn count (its .ids) (replicate 2304 0) cs ≡ storeAll its (replicate 2304 0) cs) →
+        finished count its things cells m ≡ asMatrix things cells (bind m (λ cs. done (matrixFrom highest ts cs)))
+    unfolding matrixFrom finished
+    same-answer (got cs j) k = rw (k cs j refl)
+    same-answer (fault f) k = refl
+
+    pub rest-done : T (acceptedHead h) → Bytes s → count ≤ 48 → at ≤ length s → (th : Things) → th ≡ its → (x : MatrixAnswer × List ℕ) →
+        x ≡ finished count th things cells (cellsFrom s h th count next) → x ≡ behind
+    unfolding rest
+    rest-done ok g least near th et x ex =
+        let z = head-sized h ok in
+        let (rise, n, on) = things-end s h z g highest count at near ts next f in
+        let few : length ts ≤ 48 = omega arith in
+        let all : listed count its ≡ ts = rw (← n) (from-listed highest ts few (taken-rising h 0 ts rise)) in
+        let same = same-answer (cellsOn ts) (λ cs j c. stored-all h its count (from-room highest ts .ids)
+        (rw all (cells-back h z s ts g next j cs on c .2)) (replicate 2304 0)) in
+        ex ∙ rw (et, all, f) same
+
 -- ---- a matrix
 module _ (s : List ℕ) (h : Head) (things : Things) (cells : List ℕ) where
   abbrev answered : MatrixAnswer × List ℕ
@@ -90,40 +126,15 @@ module _ (s : List ℕ) (h : Head) (things : Things) (cells : List ℕ) where
     unfolding readMatrixByHead
     read-opened = rw (ok, eq-eqb (length cells) 2304 room)
 
-    module _ (k q : ℕ) (m : MatrixAnswer) (em : m ≡ refusedAt things k q) where
-      pub matrix-no-head : headRead s h ≡ fault (refusal k q) → _≡_ {A = MatrixAnswer × List ℕ} (m, cells) answered
-      unfolding matrix
-      matrix-no-head e = rw (em, read-opened, e)
+    pub matrix-no-head : (k q : ℕ) (m : MatrixAnswer) → m ≡ refusedAt things k q → headRead s h ≡ fault (refusal k q) →
+        _≡_ {A = MatrixAnswer × List ℕ} (m, cells) answered
+    unfolding matrix
+    matrix-no-head k q m em e = rw (em, read-opened, e)
 
-      pub matrix-no-things : (count at : ℕ) → headRead s h ≡ got count at →
-          thingsRead s h count at ≡ fault (refusal k q) → _≡_ {A = MatrixAnswer × List ℕ} (m, cells) answered
-      unfolding matrix
-      matrix-no-things count at e f = rw (em, read-opened, e, f)
-
-    module _ (g : Bytes s) (count at : ℕ) (e : headRead s h ≡ got count at) (ts : List ThingRecord) (next : ℕ)
-        (f : thingsRead s h count at ≡ got ts next) where
-      abbrev cellsOn : List ThingRecord → Read ℕ Refusal (List CellRecord)
-      cellsOn ts = toEnd s (λ last. inRecord s 32 (λ kind. cell h ts last)) (λ last c. c) (length s) start next
-
-      same-answer : (m : Read ℕ Refusal (List CellRecord)) →
-          ((cs : List CellRecord) (j : ℕ) → m ≡ got cs j →
-          storedIn count (thingsFrom ts .ids) (replicate 2304 0) cs ≡ storeAll (thingsFrom ts) (replicate 2304 0) cs) →
-          finished count (thingsFrom ts) things cells m ≡ asMatrix things cells (bind m (λ cs. done (matrixFrom ts cs)))
-      unfolding matrixFrom finished
-      same-answer (got cs j) k = rw (k cs j refl)
-      same-answer (fault f) k = refl
-
-      pub matrix-done : (th : Things) → th ≡ thingsFrom ts → (x : MatrixAnswer × List ℕ) →
-          x ≡ finished count th things cells (cellsFrom s h th count next) → x ≡ answered
-      unfolding matrix
-      matrix-done th et x ex =
-          let z = head-sized h (from-true ok) in
-          let (rise, n, near) = things-end s h z g count at e ts next f in
-          let few : length ts ≤ 48 = omega (arith, head-few s h z g count at e) in
-          let all : listed count (thingsFrom ts) ≡ ts = rw (← n) (from-listed ts few (taken-rising h 0 ts rise)) in
-          let same = same-answer (cellsOn ts) (λ cs j c. stored-all h (thingsFrom ts) count (from-room ts .ids)
-          (rw all (cells-back h z s ts g next j cs near c .2)) (replicate 2304 0)) in
-          ex ∙ rw (et, all, read-opened, e, f) same
+    pub matrix-rest : (count highest at : ℕ) → headRead s h ≡ got (record { count = count; highest = highest }) at → (x : MatrixAnswer × List ℕ) →
+        x ≡ asMatrix things cells (rest h highest count s at) → x ≡ answered
+    unfolding matrix
+    matrix-rest count highest at e x ex = ex ∙ rw (read-opened, e)
 
 -- ---- against a whole scheme
 module _ (bytes : List ℕ) (s : Scheme) (things : Things) (cells : List ℕ) where

@@ -7,7 +7,7 @@ use mathlib.Core.Path.{_≡_, sym, ap, _∙_}
 use lib.ListN.{length}
 use Rattle.rights.specs.declared.ThingType.{ThingType}
 use Rattle.model.specs.Request.{ofType}
-use Rattle.model.specs.Seats.{noThings, putThing}
+use Rattle.model.specs.Seats.{noThings, withHighest, putThing}
 use Rattle.model.specs.declared.Head.{Head}
 use Rattle.model.specs.declared.Things.{Things}
 use Rattle.laws.proofs.Differ.{constructors-differ}
@@ -17,7 +17,7 @@ use Rattle.records.specs.Told.{ofReading, readingPlace}
 use Rattle.records.specs.declared.Reading.{Reading}
 use Rattle.records.specs.declared.Reading.the-variants as reading
 use Rattle.records.proofs.Trip.{Bytes}
-use Rattle.matrix_records.specs.Content.{ThingRecord}
+use Rattle.matrix_records.specs.Content.{Stated, ThingRecord}
 use Rattle.matrix_records.specs.Read.{head, thing}
 use Rattle.matrix_records.proofs.Trips.{Sized, head-record}
 use Rattle.matrix_records.proofs.ReadBack.{refusal}
@@ -29,21 +29,21 @@ use Rattle.matrix_bytes.proofs.Rising.{Rising}
 use Rattle.matrix_bytes.proofs.Trips.{stand-le, things-trip}
 
 -- ---- in a loop: none yet, and one more
-pub things-none : (th : Things) → th ≡ noThings → th ≡ thingsFrom []
+pub things-none : (highest : ℕ) (th : Things) → th ≡ noThings → withHighest highest th ≡ thingsFrom highest []
 unfolding thingsFrom seatAll
-things-none th e = e
+things-none highest th e = rw e
 
-pub things-on : (items : List ThingRecord) (j : ℕ) → length items ≡ j → (th : Things) → th ≡ thingsFrom items → (id : ℕ) (of : ThingType) (new : Things) →
-    new ≡ putThing j id (ofType of) th → new ≡ thingsFrom (items ++ record { id = id; thing = ofType of } ∷ [])
-things-on items j n th e id of new en = rw (en, e, ← n) (sym (from-next items (record { id = id; thing = ofType of })))
+pub things-on : (highest : ℕ) (items : List ThingRecord) (j : ℕ) → length items ≡ j → (th : Things) → th ≡ thingsFrom highest items →
+    (id : ℕ) (of : ThingType) (new : Things) → new ≡ putThing j id (ofType of) th → new ≡ thingsFrom highest (items ++ record { id = id; thing = ofType of } ∷ [])
+things-on highest items j n th e id of new en = rw (en, e, ← n) (sym (from-next highest items (record { id = id; thing = ofType of })))
 
 -- ---- from the answer back
-module _ (m : Read ℕ Refusal (List ThingRecord)) (r : MatrixAnswer) (er : r ≡ asThings m) where
-  pub things-good : (next : ℕ) → r .answer ≡ reading.Done next → (ts : List ThingRecord) × (m ≡ got ts next) × (r .things ≡ thingsFrom ts)
+module _ (highest : ℕ) (m : Read ℕ Refusal (List ThingRecord)) (r : MatrixAnswer) (er : r ≡ asThings highest m) where
+  pub things-good : (next : ℕ) → r .answer ≡ reading.Done next → (ts : List ThingRecord) × (m ≡ got ts next) × (r .things ≡ thingsFrom highest ts)
   things-good next e = go m (rw er at e) (ap (λ (a : MatrixAnswer). a .things) er)
     where
-      go : (m : Read ℕ Refusal (List ThingRecord)) → asThings m .answer ≡ reading.Done next → r .things ≡ asThings m .things →
-          (ts : List ThingRecord) × (m ≡ got ts next) × (r .things ≡ thingsFrom ts)
+      go : (m : Read ℕ Refusal (List ThingRecord)) → asThings highest m .answer ≡ reading.Done next → r .things ≡ asThings highest m .things →
+          (ts : List ThingRecord) × (m ≡ got ts next) × (r .things ≡ thingsFrom highest ts)
       go (got ts j) e t = let f : j ≡ next = cc in (ts, rw f, t)
       go (fault f) e t = constructors-differ (cc)
 
@@ -51,7 +51,7 @@ module _ (m : Read ℕ Refusal (List ThingRecord)) (r : MatrixAnswer) (er : r �
       m ≡ fault (refusal v w)
   things-bad k q v w e ev ew = go m (ap (λ (a : MatrixAnswer). a .answer) er)
     where
-      go : (m : Read ℕ Refusal (List ThingRecord)) → r .answer ≡ asThings m .answer → m ≡ fault (refusal v w)
+      go : (m : Read ℕ Refusal (List ThingRecord)) → r .answer ≡ asThings highest m .answer → m ≡ fault (refusal v w)
       go (got ts j) f = constructors-differ (cc)
       go (fault f) g =
           let x : v ≡ f .number = ev ∙ ap (λ (a : Reading). ofReading a .number) g in
@@ -60,18 +60,18 @@ module _ (m : Read ℕ Refusal (List ThingRecord)) (r : MatrixAnswer) (er : r �
 
 -- ---- what was read
 module _ (s : List ℕ) (h : Head) where
-  abbrev pub headRead : Read ℕ Refusal ℕ
-  headRead = inRecord s 8 (λ kind. head h) 0
+  abbrev pub headRead : Read ℕ Refusal Stated
+  headRead = inRecord s 128 (λ kind. head h) 0
 
-  abbrev pub thingsRead : ℕ → Reader ℕ Refusal (List ThingRecord)
-  thingsRead count = steps (λ last. inRecord s 16 (λ kind. thing h last)) (λ last t. t .id) count 0
+  abbrev pub thingsRead : ℕ → ℕ → Reader ℕ Refusal (List ThingRecord)
+  thingsRead highest count = steps (λ last. inRecord s 16 (λ kind. thing h highest last)) (λ last t. t .id) count 0
 
-  module _ (z : Sized h) (g : Bytes s) (count at : ℕ) (e : headRead ≡ got count at) where
-    pub head-few : count ≤ 48
-    head-few = head-record h z s .back 0 at count g e .1
+  module _ (z : Sized h) (g : Bytes s) where
+    pub head-few : (st : Stated) (at : ℕ) → headRead ≡ got st at → (st .count ≤ 48) × (at ≤ length s)
+    head-few st at e = let (a, ok) = head-record h z s .back 0 at st g e in (ok .few, stand-le a (omega arith))
 
-    pub things-end : (ts : List ThingRecord) (next : ℕ) → thingsRead count at ≡ got ts next → Rising h 0 ts × (length ts ≡ count) × (next ≤ length s)
-    things-end ts next f =
-        let a = head-record h z s .back 0 at count g e .0 in
-        let (b, up) = things-trip h z s count .back at next ts g f in
-        (up .0, up .1, stand-le b (stand-le a (omega arith)))
+    pub things-end : (highest count at : ℕ) → at ≤ length s → (ts : List ThingRecord) (next : ℕ) → thingsRead highest count at ≡ got ts next →
+        Rising h 0 ts × (length ts ≡ count) × (next ≤ length s)
+    things-end highest count at l ts next f =
+        let (b, up) = things-trip h z s highest count .back at next ts g f in
+        (up .0, up .2, stand-le b l)

@@ -1,6 +1,6 @@
 -- A list of things that takes the seats in order: who then sits where, seat by seat; and a thing of a memory as the one with its id among the seats.
 -- Assumes nothing.
-use Prim.Native.Nat.{ℕ, zero, suc, _+_, _-_, _≤_, _<_}
+use Prim.Native.Nat.{ℕ, zero, suc, _+_, _-_, _≤_, _<_, max}
 use native.Mathlib.Nat.{sub-zero, add-zero, add-suc, suc-add, zero-add}
 use native.Mathlib.Omega.{arith}
 use mathlib.Core.Bool.{Bool, true, false, cond, _||_}
@@ -16,7 +16,7 @@ use Rattle.laws.proofs.Bools.{from-true, eqb-not}
 use Rattle.model.proofs.Find.{find-lt}
 use Rattle.model.specs.Scheme.{noType}
 use Rattle.model.specs.Request.{Thing}
-use Rattle.model.specs.Seats.{among, find, known, seat, thingIn, thingAt, noThings, putThing}
+use Rattle.model.specs.Seats.{among, find, known, seat, thingIn, thingAt, noThings, withHighest, putThing}
 use Rattle.model.specs.declared.Things.{Things}
 use Rattle.matrix_records.specs.Content.{ThingRecord, nobody, recordIn, seated, taken, listed}
 use Rattle.matrix_records.specs.Read.{thingWith}
@@ -74,15 +74,19 @@ seat-all i (t ∷ ts) th r l =
     seat-all (suc i) ts _ (put-room i (t .id) (t .thing) th r) (omega arith)
     ∙ ap (λ (us : List ThingRecord). sets us (suc i) ts) (put-seated i (t .id) (t .thing) th r (omega arith))
 
-none-room : Room noThings
-none-room = record { ids = length-replicate {A = ℕ} 48 0; types = length-replicate 48 noType }
+-- before any of them: every seat is free
+abbrev start : ℕ → Things
+start highest = withHighest highest noThings
 
-none-seated : seated noThings ≡ replicate 48 nobody
+none-room : (highest : ℕ) → Room (start highest)
+none-room highest = record { ids = length-replicate {A = ℕ} 48 0; types = length-replicate 48 noType }
+
+none-seated : (highest : ℕ) → seated (start highest) ≡ replicate 48 nobody
 unfolding recordIn thingIn
-none-seated =
-    ext-getD nobody _ _ (seated-length noThings ∙ sym (length-replicate 48 nobody))
-    (λ i h. let k : i < 48 = rw (seated-length noThings) at h in
-    seated-at noThings i k ∙ rw (getD-replicate {A = ℕ} 48 i 0 0 k, getD-replicate 48 i noType noType k) (sym (getD-replicate 48 i nobody nobody k)))
+none-seated highest =
+    ext-getD nobody _ _ (seated-length (start highest) ∙ sym (length-replicate 48 nobody))
+    (λ i h. let k : i < 48 = rw (seated-length (start highest)) at h in
+    seated-at (start highest) i k ∙ rw (getD-replicate {A = ℕ} 48 i 0 0 k, getD-replicate 48 i noType noType k) (sym (getD-replicate 48 i nobody nobody k)))
 
 drop-replicate : {A : Type 0} (i n : ℕ) (a : A) → drop i (replicate n a) ≡ replicate (n - i) a
 drop-replicate zero n a = rw sub-zero
@@ -93,23 +97,23 @@ drop-replicate (suc i) (suc n) a = let e : suc n - suc i ≡ n - i = omega arith
 abbrev pub free : List ThingRecord → List ThingRecord
 free ts = replicate (48 - length ts) nobody
 
-pub from-room : (ts : List ThingRecord) → Room (thingsFrom ts)
+pub from-room : (highest : ℕ) (ts : List ThingRecord) → Room (thingsFrom highest ts)
 unfolding thingsFrom
-from-room ts = seat-room 0 ts noThings none-room
+from-room highest ts = seat-room 0 ts (start highest) (none-room highest)
 
-module _ (ts : List ThingRecord) (few : length ts ≤ 48) where
-  pub from-seated : seated (thingsFrom ts) ≡ ts ++ free ts
+module _ (highest : ℕ) (ts : List ThingRecord) (few : length ts ≤ 48) where
+  pub from-seated : seated (thingsFrom highest ts) ≡ ts ++ free ts
   unfolding thingsFrom
   from-seated =
       let l : 0 + length ts ≤ length (replicate 48 nobody) = rw (length-replicate 48 nobody) (omega arith) in
-      seat-all 0 ts noThings none-room (omega arith) ∙ rw none-seated (sets-eq ts (replicate 48 nobody) 0 l ∙ rw (zero-add, drop-replicate))
+      seat-all 0 ts (start highest) (none-room highest) (omega arith) ∙ rw (none-seated highest) (sets-eq ts (replicate 48 nobody) 0 l ∙ rw (zero-add, drop-replicate))
 
-  pub from-listed : taken ts ≡ ts → listed (length ts) (thingsFrom ts) ≡ ts
+  pub from-listed : taken ts ≡ ts → listed (length ts) (thingsFrom highest ts) ≡ ts
   unfolding listed
   from-listed e = rw (from-seated, take-append-seam ts (free ts)) e
 
-  pub from-at : (i : ℕ) → i < 48 → recordIn (thingsFrom ts) i ≡ getD ts i nobody
-  from-at i h = sym (seated-at (thingsFrom ts) i h) ∙ rw from-seated (behind (48 - length ts) ts i)
+  pub from-at : (i : ℕ) → i < 48 → recordIn (thingsFrom highest ts) i ≡ getD ts i nobody
+  from-at i h = sym (seated-at (thingsFrom highest ts) i h) ∙ rw from-seated (behind (48 - length ts) ts i)
     where
       behind : (n : ℕ) (us : List ThingRecord) (i : ℕ) → getD (us ++ replicate n nobody) i nobody ≡ getD us i nobody
       behind zero [] i = refl
@@ -125,9 +129,26 @@ unfolding seatAll
 seat-next i [] t th = rw add-zero
 seat-next i (u ∷ ts) t th = seat-next (suc i) ts t _ ∙ rw (suc-add, add-suc)
 
-pub from-next : (ts : List ThingRecord) (t : ThingRecord) → thingsFrom (ts ++ t ∷ []) ≡ putThing (length ts) (t .id) (t .thing) (thingsFrom ts)
+pub from-next : (highest : ℕ) (ts : List ThingRecord) (t : ThingRecord) →
+    thingsFrom highest (ts ++ t ∷ []) ≡ putThing (length ts) (t .id) (t .thing) (thingsFrom highest ts)
 unfolding thingsFrom
-from-next ts t = seat-next 0 ts t noThings ∙ rw zero-add
+from-next highest ts t = seat-next 0 ts t (start highest) ∙ rw zero-add
+
+-- no id is above this; then the highest stays as it is
+abbrev pub UpTo : ℕ → List ThingRecord → Type 0
+UpTo highest [] = Unit {0}
+UpTo highest (t ∷ ts) = (t .id ≤ highest) × UpTo highest ts
+
+seat-highest : (i : ℕ) (ts : List ThingRecord) (th : Things) → UpTo (th .highest) ts → seatAll i ts th .highest ≡ th .highest
+unfolding seatAll putThing
+seat-highest i [] th u = refl
+seat-highest i (t ∷ ts) th u =
+    let same : max (th .highest) (t .id) ≡ th .highest = omega (arith, u .0) in
+    seat-highest (suc i) ts (putThing i (t .id) (t .thing) th) (rw same (u .1)) ∙ same
+
+pub from-highest : (highest : ℕ) (ts : List ThingRecord) → UpTo highest ts → thingsFrom highest ts .highest ≡ highest
+unfolding thingsFrom
+from-highest highest ts u = seat-highest 0 ts (start highest) u
 
 -- ---- a thing of a memory, as the one with its id among the seats
 pub with-among : (ts : List ThingRecord) (x : ℕ) → thingWith ts x ≡ cond (among (ids ts) x) (some (getD ts (find (ids ts) x) nobody .thing)) none

@@ -25,7 +25,7 @@ use Rattle.matrix_records.specs.Content.{ThingRecord, CellRecord}
 use Rattle.matrix_records.specs.Read.{thingWith}
 use Rattle.matrix_records.proofs.Trips.{CellOk}
 use Rattle.matrix_bytes.specs.Content.{thingsFrom, store, storeAll, matrixFrom, cellsOf}
-use Rattle.matrix_bytes.proofs.Rising.{Rising, from-held, from-thing}
+use Rattle.matrix_bytes.proofs.Rising.{ThingsOk, from-held, from-thing}
 use Rattle.matrix_bytes.proofs.Spots.{spot, spotOf, Between, EachCell, rightsOr, each-map, or-below, or-unlisted, Full, same-cells}
 use Rattle.matrix_bytes.proofs.Spots.Between.{stop, on}
 use Rattle.matrix_bytes.proofs.Spots.EachCell.{no, also}
@@ -39,19 +39,19 @@ all-zero (suc n) (suc k) = all-zero n k
 filled : {h : Head} {ts : List ThingRecord} (c : CellRecord) → CellOk h ts c → Full c
 filled c o = record { low = o .columnSmall; some = o .full }
 
-module _ (h : Head) (ts : List ThingRecord) (r : Rising h 0 ts) (few : length ts ≤ 48) where
+module _ (h : Head) (highest : ℕ) (ts : List ThingRecord) (listed : ThingsOk h highest ts) where
   abbrev th : Things
-  th = thingsFrom ts
+  th = thingsFrom highest ts
 
-  things-held : HeldThings h (thingsFrom ts)
-  things-held = from-held h ts r few
+  things-held : HeldThings h (thingsFrom highest ts)
+  things-held = from-held h highest ts listed
 
   -- ---- what is found in the list has a seat
   seated : (x : ℕ) → isSome (thingWith ts x) ≡ known th x
-  seated x = rw (← (from-thing h ts r few x)) (is-thing th x)
+  seated x = rw (← (from-thing h highest ts listed x)) (is-thing th x)
 
   row-seated : (c : CellRecord) → CellOk h ts c → T (known th (c .row) && isSubject h (getD (th .types) (seat th (c .row)) noType))
-  row-seated c o = rw (← (is-row h th (c .row)), from-thing h ts r few) (o .rowIs)
+  row-seated c o = rw (← (is-row h th (c .row)), from-thing h highest ts listed) (o .rowIs)
 
   row-known : (c : CellRecord) → CellOk h ts c → T (known th (c .row))
   row-known c o = and-left (known th (c .row)) _ (row-seated c o)
@@ -144,11 +144,11 @@ module _ (h : Head) (ts : List ThingRecord) (r : Rising h 0 ts) (few : length ts
   module _ (cs : List CellRecord) (each : EachCell (CellOk h ts) cs) where
     -- all its places, from those of an empty matrix
     stored-all : (P : ℕ → ℕ → Type 0) → ((k : ℕ) → P k 0) → ((c : CellRecord) → CellOk h ts c → P (place th (c .row) (c .column)) (c .rights)) →
-        (k : ℕ) → P k (getD (matrixFrom ts cs .cells) k 0)
+        (k : ℕ) → P k (getD (matrixFrom highest ts cs .cells) k 0)
     unfolding matrixFrom
     stored-all P z f = store-all P f each (replicate 2304 0) (length-replicate 2304 zero) (λ k. rw (all-zero 2304 k) (z k))
 
-    pub from-accepted : Held h (matrixFrom ts cs)
+    pub from-accepted : Held h (matrixFrom highest ts cs)
     unfolding matrixFrom
     from-accepted = record {
       things = things-held;
@@ -160,11 +160,11 @@ module _ (h : Head) (ts : List ThingRecord) (r : Rising h 0 ts) (few : length ts
     }
 
     module _ {b : ℕ} (up : Between 0 cs b) where
-      pub from-rights : (x y : ℕ) → y ≤ 65535 → standsFor (matrixFrom ts cs) .rights x y ≡ rightsOr 0 cs (spot x y)
+      pub from-rights : (x y : ℕ) → y ≤ 65535 → standsFor (matrixFrom highest ts cs) .rights x y ≡ rightsOr 0 cs (spot x y)
       unfolding standsFor matrixFrom cell
       from-rights x y l = go (known th x && known th y) refl
         where
-          go : (t : Bool) → (known th x && known th y) ≡ t → cond t (cell (matrixFrom ts cs) x y) 0 ≡ rightsOr 0 cs (spot x y)
+          go : (t : Bool) → (known th x && known th y) ≡ t → cond t (cell (matrixFrom highest ts cs) x y) 0 ≡ rightsOr 0 cs (spot x y)
           go true e =
               let kx : T (known th x) = and-left (known th x) (known th y) (from-true e) in
               let ky : T (known th y) = and-right (known th x) (known th y) (from-true e) in
@@ -175,14 +175,14 @@ module _ (h : Head) (ts : List ThingRecord) (r : Rising h 0 ts) (few : length ts
               rw e at (and-both (known th x) (known th y) (rw er at (row-known c o)) (rw ec at (column-known c o)))))
 
       -- its cells are those that were given
-      pub cells-again : cellsOf h (matrixFrom ts cs) ≡ cs
+      pub cells-again : cellsOf h (matrixFrom highest ts cs) ≡ cs
       cells-again =
           same-cells (cells-between h M ok) up (each-map (λ c. filled c) (cells-each h M ok)) (each-map (λ c. filled c) each) (λ j.
           let e : spot (j / 65536) (j % 65536) ≡ j = omega arith in
           rw e at (cells-at h M ok (j / 65536) (j % 65536) (omega arith) ∙ from-rights (j / 65536) (j % 65536) (omega arith)))
         where
           M : Matrix
-          M = matrixFrom ts cs
+          M = matrixFrom highest ts cs
 
           ok : Held h M
           ok = from-accepted

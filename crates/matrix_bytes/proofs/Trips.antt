@@ -23,19 +23,30 @@ use Rattle.records.proofs.BytesLaws.{length-record}
 use Rattle.matrix_records.specs.Content.{ThingRecord, CellRecord}
 use Rattle.matrix_records.specs.Read.{thing, cell, above, start}
 use Rattle.matrix_records.specs.Write.{thingBytes, cellBytes}
-use Rattle.matrix_records.proofs.Trips.{Sized, CellOk, NextOk, thing-record, cell-record}
+use Rattle.matrix_records.proofs.Trips.{Sized, UpToOk, CellOk, NextOk, thing-record, cell-record}
 use Rattle.matrix_bytes.specs.Read.{toEnd}
+use Rattle.matrix_bytes.proofs.Seating.{UpTo}
 use Rattle.matrix_bytes.proofs.Rising.{Rising}
 use Rattle.matrix_bytes.proofs.Spots.{spot, spotOf, Between, EachCell}
 use Rattle.matrix_bytes.proofs.Spots.Between.{stop, on}
 use Rattle.matrix_bytes.proofs.Spots.EachCell.{no, also}
 
 -- ---- the things
-pub things-trip : (h : Head) → Sized h → (s : List ℕ) (count : ℕ) →
-    Trip (input s) (steps (λ last. inRecord s 16 (λ kind. thing h last)) (λ last t. t .id) count 0) (eachBytes (λ t. recordBytes 4 (thingBytes t)))
-    (λ ts. Rising h 0 ts × (length ts ≡ count))
-things-trip h z s count =
-    trip-as (trip-steps (thing-record h z s) (λ last t. t .id) count 0) (λ ts o. refl) (λ ts o. o) (λ ts o. o)
+each-ok : (h : Head) (highest last : ℕ) (ts : List ThingRecord) → OkAll (λ last t. t .id) (UpToOk h highest) last ts → Rising h last ts × UpTo highest ts
+each-ok h highest last [] o = (tt, tt)
+each-ok h highest last (t ∷ ts) o = let (r, u) = each-ok h highest (t .id) ts (o .1) in ((o .0 .0, r), (o .0 .1, u))
+
+ok-each : (h : Head) (highest last : ℕ) (ts : List ThingRecord) → Rising h last ts → UpTo highest ts → OkAll (λ last t. t .id) (UpToOk h highest) last ts
+ok-each h highest last [] r u = tt
+ok-each h highest last (t ∷ ts) r u = ((r .0, u .0), ok-each h highest (t .id) ts (r .1) (u .1))
+
+pub things-trip : (h : Head) → Sized h → (s : List ℕ) (highest count : ℕ) →
+    Trip (input s) (steps (λ last. inRecord s 16 (λ kind. thing h highest last)) (λ last t. t .id) count 0) (eachBytes (λ t. recordBytes 4 (thingBytes t)))
+    (λ ts. Rising h 0 ts × UpTo highest ts × (length ts ≡ count))
+things-trip h z s highest count =
+    trip-as (trip-steps (thing-record h z s highest) (λ last t. t .id) count 0) (λ ts o. refl)
+    (λ ts o. let (r, u) = each-ok h highest 0 ts (o .0) in (r, u, o .1))
+    (λ ts o. (ok-each h highest 0 ts (o .0) (o .1), o .2))
 
 -- ---- up to the end of the input
 pub stand-le : {s v : List ℕ} {i j : ℕ} → Stand s v i j → i ≤ length s → j ≤ length s

@@ -13,25 +13,21 @@ use Rattle.records.specs.declared.Reading.the-variants.{Done}
 use Rattle.records.specs.declared.Writing.{Writing}
 use Rattle.records.specs.declared.Writing.the-variants as writing
 use Rattle.matrix_bytes.specs.Answers.{readMatrix}
-use Rattle.matrix_bytes.specs.Content.{thingsOf, cellsOf, matrixFrom}
+use Rattle.matrix_bytes.specs.Content.{reseated}
 use Rattle.matrix_bytes.specs.Write.{writeMatrix}
 use Rattle.matrix_bytes.specs.declared.answers.MatrixAnswer.{MatrixAnswer}
-
--- the matrix with the same things in the seats by rising id, and the same cells
-abbrev pub reseated : Scheme → Matrix → Matrix
-reseated s m = matrixFrom (thingsOf m) (cellsOf (s .head) m)
 
 pub record FunctionTrips : Type 0 where
   -- Writing then reading gives the same content. A matrix was written against a scheme, and the answer was that it took n bytes. Then a reading of the
   -- buffer's first n bytes against that scheme, into 48 times 48 cells that are lent, ends behind the last of those bytes and gives the matrix with
-  -- its things in the seats by rising id, whatever the things and the cells were before; and that stands for the same papers' matrix: the same things,
-  -- and the same cells by id.
+  -- its things in the seats by rising id, whatever the things and the cells were before; and that stands for the same papers' matrix: the same highest,
+  -- the same things, and the same cells by id.
   pub written : (out : List ℕ) (s : Scheme) (m : Matrix) (n : ℕ) (left : List ℕ) →
       _≡_ {A = Writing × List ℕ} (writeMatrix out s m) (writing.Done n, left) →
       ((things : Things) (cells : List ℕ) → length cells ≡ 2304 →
       _≡_ {A = MatrixAnswer × List ℕ} (readMatrix (take n left) s things cells)
-      (record { answer = Done n; things = reseated s m .things }, reseated s m .cells))
-      × (standsFor (reseated s m) ≡ standsFor m)
+      (record { answer = Done n; things = reseated (s .head) m .things }, reseated (s .head) m .cells))
+      × (standsFor (reseated (s .head) m) ≡ standsFor m)
   -- Reading then writing gives the same bytes. A matrix was read from a list of bytes against a scheme. Then the reading ended at the list's end; and
   -- writing the things and the cells that it gave, against that scheme, into any buffer with room for as many bytes places those bytes at its start,
   -- changes nothing else, and answers how many they are.

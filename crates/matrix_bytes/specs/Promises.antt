@@ -10,17 +10,17 @@ use Rattle.model.specs.Seats.{Matrix, thingIn, standsFor}
 use Rattle.model.specs.Accepted.{zeroThing, acceptedScheme, acceptedMatrix}
 use Rattle.model.specs.declared.Scheme.{Scheme}
 use Rattle.records.specs.Reading.{got}
-use Rattle.matrix_bytes.specs.Content.{thingsOf, cellsOf, matrixFrom}
+use Rattle.matrix_bytes.specs.Content.{reseated}
 use Rattle.matrix_bytes.specs.Read.{matrix}
 use Rattle.matrix_bytes.specs.Write.{matrixBytes}
 
 pub record RoundTrips : Type 0 where
   -- Writing then reading gives the same content: an accepted matrix's bytes read as the matrix with its things in the seats by rising id.
   pub there : (s : Scheme) (m : Matrix) → T (acceptedScheme s) → T (acceptedMatrix (s .head) m) →
-      matrix (s .head) (matrixBytes (s .head) m) 0 ≡ got (matrixFrom (thingsOf m) (cellsOf (s .head) m)) (length (matrixBytes (s .head) m))
-  -- which stands for the same papers' matrix: the same things, and the same cells by id
+      matrix (s .head) (matrixBytes (s .head) m) 0 ≡ got (reseated (s .head) m) (length (matrixBytes (s .head) m))
+  -- which stands for the same papers' matrix: the same highest, the same things, and the same cells by id
   pub sameContent : (s : Scheme) (m : Matrix) → T (acceptedScheme s) → T (acceptedMatrix (s .head) m) →
-      standsFor (matrixFrom (thingsOf m) (cellsOf (s .head) m)) ≡ standsFor m
+      standsFor (reseated (s .head) m) ≡ standsFor m
   -- Reading then writing gives the same bytes, and what was read is accepted.
   pub back : (s : Scheme) (bytes : List ℕ) (m : Matrix) (next : ℕ) → T (acceptedScheme s) → ((i : ℕ) → getD bytes i 0 < 256) →
       matrix (s .head) bytes 0 ≡ got m next → T (acceptedMatrix (s .head) m) × (bytes ≡ matrixBytes (s .head) m) × (next ≡ length bytes)
@@ -35,15 +35,15 @@ pub record Tidy (m : Matrix) : Type 0 where
   pub free : (i : ℕ) → i < 48 → getD (m .things .ids) i 0 ≡ 0 → T (zeroThing (thingIn (m .things) i))
   pub bare : (i j : ℕ) → j < 48 → (getD (m .things .ids) i 0 ≡ 0) ⊎ (getD (m .things .ids) j 0 ≡ 0) → getD (m .cells) (i * 48 + j) 0 ≡ 0
 
--- 27 for a matrix: accepted exactly if some bytes read, against that scheme, as a matrix with the same content (the same things, the same cells by
--- id), and nothing stands in what is unused.
+-- 27 for a matrix: accepted exactly if some bytes read, against that scheme, as a matrix with the same content (the same highest, the same things, the
+-- same cells by id), and nothing stands in what is unused.
 pub record AcceptedIffRead : Type 0 where
   -- an accepted matrix is tidy; its bytes are bytes, and read as a matrix with the same content
   pub reads : (s : Scheme) (m : Matrix) → T (acceptedScheme s) → T (acceptedMatrix (s .head) m) →
       Tidy m
       × ((i : ℕ) → getD (matrixBytes (s .head) m) i 0 < 256)
-      × (matrix (s .head) (matrixBytes (s .head) m) 0 ≡ got (matrixFrom (thingsOf m) (cellsOf (s .head) m)) (length (matrixBytes (s .head) m)))
-      × (standsFor (matrixFrom (thingsOf m) (cellsOf (s .head) m)) ≡ standsFor m)
+      × (matrix (s .head) (matrixBytes (s .head) m) 0 ≡ got (reseated (s .head) m) (length (matrixBytes (s .head) m)))
+      × (standsFor (reseated (s .head) m) ≡ standsFor m)
   -- a tidy matrix with the content of what any bytes read as is accepted
   pub accepts : (s : Scheme) (m read : Matrix) (bytes : List ℕ) (next : ℕ) → T (acceptedScheme s) → ((i : ℕ) → getD bytes i 0 < 256) →
       matrix (s .head) bytes 0 ≡ got read next → standsFor read ≡ standsFor m → Tidy m → T (acceptedMatrix (s .head) m)

@@ -18,10 +18,15 @@ module _ {A S : Type 0} (s : List ℕ) (p : S → Reader ℕ Refusal A) (next : 
   toEnd zero st = done []
   toEnd (suc fuel) st = λ at. cond (eqb at (length s)) (got [] at) ((p st >>= λ a. toEnd fuel (next st a) >>= λ xs. done (a ∷ xs)) at)
 
--- ---- a matrix: a head (kind 3), its things (kind 4), then its cells (kind 5) to the end
+-- ---- what stands behind a head: so many things (kind 4) with ids up to the highest, then cells (kind 5) to the end
+unfoldable pub rest : Head → ℕ → ℕ → List ℕ → Reader ℕ Refusal Matrix
+rest h highest count s = do
+  things ← steps (λ last. inRecord s 16 (λ kind. thing h highest last)) (λ last t. t .id) count 0
+  cells ← toEnd s (λ last. inRecord s 32 (λ kind. cell h things last)) (λ last c. c) (length s) start
+  done (matrixFrom highest things cells)
+
+-- ---- a matrix: a head (kind 7), and the rest
 unfoldable pub matrix : Head → List ℕ → Reader ℕ Refusal Matrix
 matrix h s = do
-  count ← inRecord s 8 (λ kind. head h)
-  things ← steps (λ last. inRecord s 16 (λ kind. thing h last)) (λ last t. t .id) count 0
-  cells ← toEnd s (λ last. inRecord s 32 (λ kind. cell h things last)) (λ last c. c) (length s) start
-  done (matrixFrom things cells)
+  stated ← inRecord s 128 (λ kind. head h)
+  rest h (stated .highest) (stated .count) s

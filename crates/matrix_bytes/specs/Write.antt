@@ -17,7 +17,7 @@ use Rattle.matrix_bytes.specs.Content.{thingsOf, cellsOf}
 
 unfoldable pub matrixBytes : Head → Matrix → List ℕ
 matrixBytes h m =
-    recordBytes 3 (headBytes (h .rights) (length (thingsOf m)))
+    recordBytes 7 (headBytes (h .rights) (record { count = length (thingsOf m); highest = m .things .highest }))
     ++ eachBytes (λ t. recordBytes 4 (thingBytes t)) (thingsOf m)
     ++ eachBytes (λ c. recordBytes 5 (cellBytes c)) (cellsOf h m)
 

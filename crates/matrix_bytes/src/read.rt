@@ -19,7 +19,8 @@ ghost use Rattle.model.specs.Accepted.{acceptedHead};
 ghost use Rattle.records.specs.Reading.{steps};
 ghost use Rattle.records.specs.Front.{inRecord};
 ghost use Rattle.matrix_records.specs.Read.{thing};
-ghost use Rattle.matrix_bytes.specs.Answers.{readMatrix, readMatrixByHead};
+ghost use Rattle.matrix_bytes.specs.Read.{rest};
+ghost use Rattle.matrix_bytes.specs.Answers.{asMatrix, readMatrix, readMatrixByHead};
 ghost use Rattle.matrix_bytes.specs.Inner.Parts.{refusedAt, asThings, cellsFrom, CellsRead, finished};
 
 fn refused(number: u8, at: usize, things: Things) -> MatrixAnswer
@@ -31,18 +32,19 @@ fn refused(number: u8, at: usize, things: Things) -> MatrixAnswer
     }
 }
 
-// So many things, each behind the one before it, in the seats from the first on.
-fn read_things(s: &[u8], at: usize, h: Head, count: u8) -> MatrixAnswer
+// So many things with ids up to the highest, each behind the one before it, in the seats from the first on.
+fn read_things(s: &[u8], at: usize, h: Head, highest: u16, count: u8) -> MatrixAnswer
     requires { ⌜ T (acceptedHead h) ⌝ }
-    ensures { λ r. ⌜ r ≡ asThings (steps (λ last. inRecord (now (s .entry)) 16 (λ kind. thing h last)) (λ last t. t .id) count 0 at) ⌝ }
+    ensures { λ r. ⌜ r ≡ asThings highest (steps (λ last. inRecord (now (s .entry)) 16 (λ kind. thing h highest last)) (λ last t. t .id) count 0 at) ⌝ }
 {
     let n = count as usize;
     let mut th = things::no_things();
+    th.highest = highest;
     let mut last: u16 = 0;
     let mut p = at;
     let mut j: usize = 0;
     while j < n {
-        let found = matrix_records::read_thing(s, p, Kinds(16), h, last);
+        let found = matrix_records::read_thing(s, p, Kinds(16), h, highest, last);
         let ThingAt::Good {
             kind: _,
             id,
@@ -120,6 +122,28 @@ fn finish(
     }
 }
 
+// What stands behind a head that states so many things and this highest id: the things, and the cells behind them, into the lent ones.
+fn read_rest(
+    s: &[u8],
+    at: usize,
+    h: Head,
+    highest: u16,
+    count: u8,
+    things: Things,
+    cells: &mut [u64],
+) -> MatrixAnswer
+    requires { ⌜ T (acceptedHead h) × (count ≤ 48) × (at ≤ length (now s)) × (length (now cells) ≡ 2304) ⌝ }
+    ensures { λ r. ⌜ _≡_ {A = MatrixAnswer × List ℕ} (r, now (cells .exit)) (asMatrix things (now (cells .entry)) (rest h highest count (now (s .entry)) at)) ⌝ }
+{
+    let read = read_things(s, at, h, highest, count);
+    let answer = read.answer;
+    let th = read.things;
+    let Reading::Done { next } = answer else {
+        return refused(answer.number(), answer.at(), things);
+    };
+    finish(s, next, h, th, count as usize, things, cells)
+}
+
 // The whole of an input as a matrix of a scheme; where it is refused, the things come back as they were handed in, and the cells stay.
 pub fn read_matrix(s: &[u8], scheme: Scheme, things: Things, cells: &mut [u64]) -> MatrixAnswer
     ensures { λ r. ⌜ _≡_ {A = MatrixAnswer × List ℕ} (r, now (cells .exit)) (readMatrix (now (s .entry)) scheme things (now (cells .entry))) ⌝ }
@@ -141,20 +165,15 @@ pub fn read_matrix_by_head(s: &[u8], h: Head, things: Things, cells: &mut [u64])
     if !head_accepted(h) {
         return refused(27, 0, things);
     }
-    let head = matrix_records::read_head(s, 0, Kinds(8), h);
+    let head = matrix_records::read_head(s, 0, Kinds(128), h);
     let HeadAt::Good {
         kind: _,
         count,
+        highest,
         next,
     } = head
     else {
         return refused(head.number(), head.at(), things);
     };
-    let read = read_things(s, next, h, count);
-    let answer = read.answer;
-    let th = read.things;
-    let Reading::Done { next: behind } = answer else {
-        return refused(answer.number(), answer.at(), things);
-    };
-    finish(s, behind, h, th, count as usize, things, cells)
+    read_rest(s, next, h, highest, count, things, cells)
 }

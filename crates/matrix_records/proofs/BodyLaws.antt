@@ -7,9 +7,9 @@ use mathlib.Core.Logic.{_≢_}
 use mathlib.Core.Option.{some}
 use mathlib.Core.List.{List, [], _∷_}
 use mathlib.Core.Path.{_≡_, refl, sym, ap, _∙_}
-use lib.Dec.{eqb, ltb}
+use lib.Dec.{eqb, leb, ltb}
 use lib.ListN.{length, take, drop, getD}
-use borrow.Author.Tests.{lt-ltb, le-ltb, eq-eqb, ne-eqb}
+use borrow.Author.Tests.{lt-ltb, le-ltb, lt-leb, le-leb, eq-eqb, ne-eqb}
 use Rattle.rights.specs.Sets.{has, within}
 use Rattle.rights.specs.Numberings.{type}
 use Rattle.laws.specs.Check.{isSome}
@@ -67,43 +67,53 @@ module _ (b : List ℕ) (h : Head) where
       head-no-count k e = rw (en, eq-eqb n (h .rights) same, e)
 
       module _ (count : ℕ) (ec : field 0 49 4 (drop 1 b) ≡ got count (drop 2 b)) where
-        pub head-more : 2 < length b → whole (head h) b ≡ fault 3
+        pub head-no-highest : (k : ℕ) → number 2 (drop 2 b) ≡ fault k → whole (head h) b ≡ fault k
         unfolding whole head
-        head-more l = rw (en, eq-eqb n (h .rights) same, ec, one-off b 2 l)
+        head-no-highest k e = rw (en, eq-eqb n (h .rights) same, ec, e)
 
-        pub head-whole : length b ≤ 2 → whole (head h) b ≡ got count []
-        unfolding whole head
-        head-whole l = rw (en, eq-eqb n (h .rights) same, ec, none-left b 2 l)
+        module _ (highest : ℕ) (eh : number 2 (drop 2 b) ≡ got highest (drop 4 b)) where
+          pub head-more : 4 < length b → whole (head h) b ≡ fault 3
+          unfolding whole head
+          head-more l = rw (en, eq-eqb n (h .rights) same, ec, eh, one-off b 4 l)
+
+          pub head-whole : length b ≤ 4 → whole (head h) b ≡ got (record { count = count; highest = highest }) []
+          unfolding whole head
+          head-whole l = rw (en, eq-eqb n (h .rights) same, ec, eh, none-left b 4 l)
 
 -- ---- a thing
-module _ (b : List ℕ) (h : Head) (last : ℕ) where
-  pub thing-no-id : (k : ℕ) → number 2 b ≡ fault k → whole (thing h last) b ≡ fault k
+module _ (b : List ℕ) (h : Head) (highest last : ℕ) where
+  pub thing-no-id : (k : ℕ) → number 2 b ≡ fault k → whole (thing h highest last) b ≡ fault k
   unfolding whole thing
   thing-no-id k e = rw e
 
   module _ (id : ℕ) (ei : number 2 b ≡ got id (drop 2 b)) where
-    pub thing-zero : id ≡ 0 → whole (thing h last) b ≡ fault 6
+    pub thing-zero : id ≡ 0 → whole (thing h highest last) b ≡ fault 6
     unfolding whole thing
     thing-zero z = rw (ei, eq-eqb id 0 z)
 
     module _ (nz : id ≡ 0 → ⊥) where
-      pub thing-below : id ≤ last → whole (thing h last) b ≡ fault 7
+      pub thing-below : id ≤ last → whole (thing h highest last) b ≡ fault 7
       unfolding whole thing
       thing-below l = rw (ei, ne-eqb id 0 nz, le-ltb last id l)
 
       module _ (up : last < id) where
-        pub thing-no-type : (k : ℕ) → field 0 (h .types) 5 (drop 2 b) ≡ fault k → whole (thing h last) b ≡ fault k
+        pub thing-above : highest < id → whole (thing h highest last) b ≡ fault 6
         unfolding whole thing
-        thing-no-type k e = rw (ei, ne-eqb id 0 nz, lt-ltb last id up, e)
+        thing-above l = rw (ei, ne-eqb id 0 nz, lt-ltb last id up, lt-leb id highest l)
 
-        module _ (t : ℕ) (et : field 0 (h .types) 5 (drop 2 b) ≡ got t (drop 3 b)) where
-          pub thing-more : 3 < length b → whole (thing h last) b ≡ fault 3
+        module _ (low : id ≤ highest) where
+          pub thing-no-type : (k : ℕ) → field 0 (h .types) 5 (drop 2 b) ≡ fault k → whole (thing h highest last) b ≡ fault k
           unfolding whole thing
-          thing-more l = rw (ei, ne-eqb id 0 nz, lt-ltb last id up, et, one-off b 3 l)
+          thing-no-type k e = rw (ei, ne-eqb id 0 nz, lt-ltb last id up, le-leb id highest low, e)
 
-          pub thing-whole : length b ≤ 3 → whole (thing h last) b ≡ got (record { id = id; thing = ofType (type t) }) []
-          unfolding whole thing
-          thing-whole l = rw (ei, ne-eqb id 0 nz, lt-ltb last id up, et, none-left b 3 l)
+          module _ (t : ℕ) (et : field 0 (h .types) 5 (drop 2 b) ≡ got t (drop 3 b)) where
+            pub thing-more : 3 < length b → whole (thing h highest last) b ≡ fault 3
+            unfolding whole thing
+            thing-more l = rw (ei, ne-eqb id 0 nz, lt-ltb last id up, le-leb id highest low, et, one-off b 3 l)
+
+            pub thing-whole : length b ≤ 3 → whole (thing h highest last) b ≡ got (record { id = id; thing = ofType (type t) }) []
+            unfolding whole thing
+            thing-whole l = rw (ei, ne-eqb id 0 nz, lt-ltb last id up, le-leb id highest low, et, none-left b 3 l)
 
 -- ---- the rights of a cell
 module _ (b : List ℕ) (h : Head) where

@@ -21,7 +21,7 @@ use Rattle.records.specs.Reading.{Read, got, fault, Reader, _>>=_, _>>_, done, 
 use Rattle.records.specs.Front.{Refusal, inRecord}
 use Rattle.records.proofs.Trip.{never, got-same, bind-got}
 use Rattle.records.proofs.TripRecord.{in-record-back}
-use Rattle.matrix_records.specs.Content.{ThingRecord, CellRecord, listed}
+use Rattle.matrix_records.specs.Content.{Stated, ThingRecord, CellRecord, listed}
 use Rattle.matrix_records.specs.Read.{head, thing, cell, thingWith, isRow, above}
 use Rattle.matrix_records.specs.Answers.{kindAt, asHeadAt, asThingAt, asCellAt, placeIn, readHead, readThing, readCell}
 use Rattle.matrix_records.specs.Told.{ofHead, ofThing, ofCell, headPlace, thingPlace, cellPlace}
@@ -43,9 +43,10 @@ module _ (s : List ℕ) (at kinds : ℕ) (h : Head) (ok : T (acceptedHead h)) wh
   unfolding readHead
   head-opened = rw (is-true (acceptedHead h) ok)
 
-  pub thing-opened : (last : ℕ) → readThing s at kinds h last ≡ asThingAt (kindAt s at) (inRecord s kinds (λ kind. thing h last) at)
+  pub thing-opened : (highest last : ℕ) →
+      readThing s at kinds h highest last ≡ asThingAt (kindAt s at) (inRecord s kinds (λ kind. thing h highest last) at)
   unfolding readThing
-  thing-opened last = rw (is-true (acceptedHead h) ok)
+  thing-opened highest last = rw (is-true (acceptedHead h) ok)
 
   pub cell-opened : (th : Things) (n : ℕ) (last : CellRecord) →
       readCell s at kinds h th n last ≡ asCellAt n (th .ids) (kindAt s at) (inRecord s kinds (λ kind. cell h (listed n th) last) at)
@@ -53,19 +54,19 @@ module _ (s : List ℕ) (at kinds : ℕ) (h : Head) (ok : T (acceptedHead h)) wh
   cell-opened th n last = rw (is-true (acceptedHead h) ok)
 
 -- ---- a head
-module _ (kind : ℕ) (m : Read ℕ Refusal ℕ) (r : HeadAt) (er : r ≡ asHeadAt kind m) where
-  pub head-read : (k count next : ℕ) → r ≡ head-at.Good k count next → m ≡ got count next
-  head-read k count next e = go m er
+module _ (kind : ℕ) (m : Read ℕ Refusal Stated) (r : HeadAt) (er : r ≡ asHeadAt kind m) where
+  pub head-read : (k count highest next : ℕ) → r ≡ head-at.Good k count highest next → m ≡ got (record { count = count; highest = highest }) next
+  head-read k count highest next e = go m er
     where
-      go : (m : Read ℕ Refusal ℕ) → r ≡ asHeadAt kind m → m ≡ got count next
-      go (got n j) er = cc
+      go : (m : Read ℕ Refusal Stated) → r ≡ asHeadAt kind m → m ≡ got (record { count = count; highest = highest }) next
+      go (got st j) er = let x : count ≡ st .count = cc in let y : highest ≡ st .highest = cc in let z : next ≡ j = cc in rw (x, y, z)
       go (fault f) er = constructors-differ (cc)
 
   pub head-stopped : (k q v w : ℕ) → r ≡ head-at.Refused k q → v ≡ ofHead r .number → w ≡ headPlace r → m ≡ fault (refusal v w)
   head-stopped k q v w e ev ew = go m er
     where
-      go : (m : Read ℕ Refusal ℕ) → r ≡ asHeadAt kind m → m ≡ fault (refusal v w)
-      go (got n j) er = constructors-differ (cc)
+      go : (m : Read ℕ Refusal Stated) → r ≡ asHeadAt kind m → m ≡ fault (refusal v w)
+      go (got st j) er = constructors-differ (cc)
       go (fault f) er =
           let x : v ≡ f .number = ev ∙ ap (λ (a : HeadAt). ofHead a .number) er in
           let y : w ≡ f .at = ew ∙ ap headPlace er in

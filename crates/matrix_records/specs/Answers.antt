@@ -15,7 +15,7 @@ use Rattle.records.specs.Reading.{Read, got, fault}
 use Rattle.records.specs.Front.{Refusal, against, inRecord}
 use Rattle.records.specs.declared.RecordAnswer.{RecordAnswer}
 use Rattle.records.specs.declared.RecordAnswer.the-variants.{Record, Refused}
-use Rattle.matrix_records.specs.Content.{ThingRecord, CellRecord, listed}
+use Rattle.matrix_records.specs.Content.{Stated, ThingRecord, CellRecord, listed}
 use Rattle.matrix_records.specs.Read.{head, thing, cell}
 use Rattle.matrix_records.specs.declared.answers.HeadAt.{HeadAt}
 use Rattle.matrix_records.specs.declared.answers.HeadAt.the-variants as head-at
@@ -35,8 +35,8 @@ anyRecordAt s at =
     (cond (leb (at + 4 + number2 s at) (length s)) (Record (kindAt s at) (at + 4) (number2 s at)) (Refused 1 at))
     (Refused 1 at)
 
-abbrev pub asHeadAt : ℕ → Read ℕ Refusal ℕ → HeadAt
-asHeadAt kind (got count next) = head-at.Good kind count next
+abbrev pub asHeadAt : ℕ → Read ℕ Refusal Stated → HeadAt
+asHeadAt kind (got st next) = head-at.Good kind (st .count) (st .highest) next
 asHeadAt kind (fault f) = head-at.Refused (f .number) (f .at)
 
 abbrev pub asThingAt : ℕ → Read ℕ Refusal ThingRecord → ThingAt
@@ -55,13 +55,13 @@ abbrev pub asCellAt : ℕ → List ℕ → ℕ → Read ℕ Refusal CellRecord �
 asCellAt n ids kind (got c next) = cell-at.Good kind (c .row) (c .column) (placeIn n ids c) (c .rights) next
 asCellAt n ids kind (fault f) = cell-at.Refused (f .number) (f .at)
 
--- the functions: each record against a scheme's head, over the kinds that may stand there; a cell is one of the first n things' and stands behind a
--- cell at a row and a column
+-- the functions: each record against a scheme's head, over the kinds that may stand there; a thing has an id up to the highest and stands behind one with the
+-- id `last`; a cell is one of the first n things' and stands behind a cell at a row and a column
 unfoldable pub readHead : List ℕ → ℕ → ℕ → Head → HeadAt
 readHead s at kinds h = asHeadAt (kindAt s at) (against (acceptedHead h) (inRecord s kinds (λ kind. head h) at))
 
-unfoldable pub readThing : List ℕ → ℕ → ℕ → Head → ℕ → ThingAt
-readThing s at kinds h last = asThingAt (kindAt s at) (against (acceptedHead h) (inRecord s kinds (λ kind. thing h last) at))
+unfoldable pub readThing : List ℕ → ℕ → ℕ → Head → ℕ → ℕ → ThingAt
+readThing s at kinds h highest last = asThingAt (kindAt s at) (against (acceptedHead h) (inRecord s kinds (λ kind. thing h highest last) at))
 
 unfoldable pub readCell : List ℕ → ℕ → ℕ → Head → Things → ℕ → CellRecord → CellAt
 readCell s at kinds h th n last =

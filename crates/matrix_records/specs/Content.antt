@@ -1,4 +1,5 @@
--- What a matrix's records say: a thing with its id, and a cell with its row's and its column's ids; and the things in memory, each with its id.
+-- What a matrix's records say: what the head states, a thing with its id, and a cell with its row's and its column's ids; and the things in memory, each
+-- with its id.
 -- Assumes nothing.
 use Prim.Native.Nat.{ℕ, zero, suc}
 use mathlib.Core.Bool.{cond}
@@ -9,6 +10,11 @@ use Rattle.model.specs.Scheme.{noType}
 use Rattle.model.specs.Request.{Thing, ofType}
 use Rattle.model.specs.Seats.{thingIn}
 use Rattle.model.specs.declared.Things.{Things}
+
+-- what a head states besides n: how many things follow, and the highest id that there ever was
+pub record Stated : Type 0 where
+  pub count : ℕ
+  pub highest : ℕ
 
 pub record ThingRecord : Type 0 where
   pub id : ℕ

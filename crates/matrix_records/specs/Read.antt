@@ -4,28 +4,31 @@ use Prim.Native.Nat.{ℕ, _^_}
 use mathlib.Core.Bool.{Bool, false, cond, not, _&&_, _||_}
 use mathlib.Core.Option.{Option, none, some}
 use mathlib.Core.List.{List, [], _∷_}
-use lib.Dec.{eqb, ltb}
+use lib.Dec.{eqb, leb, ltb}
 use Rattle.rights.specs.Numberings.{type}
 use Rattle.laws.specs.Check.{isSome}
 use Rattle.model.specs.Scheme.{isSubject}
 use Rattle.model.specs.Request.{Thing, ofType}
 use Rattle.model.specs.declared.Head.{Head}
 use Rattle.records.specs.Reading.{Body, _>>=_, _>>_, done, check, field, number}
-use Rattle.matrix_records.specs.Content.{ThingRecord, CellRecord}
+use Rattle.matrix_records.specs.Content.{Stated, ThingRecord, CellRecord}
 
--- ---- the head: n (1), the scheme's; things (1)
-unfoldable pub head : Head → Body ℕ
+-- ---- the head: n (1), the scheme's; things (1); the highest id that there ever was (2), any number
+unfoldable pub head : Head → Body Stated
 head h = do
   n ← field 1 65 4
   check (eqb n (h .rights)) 6
-  field 0 49 4
+  count ← field 0 49 4
+  highest ← number 2
+  done (record { count = count; highest = highest })
 
--- ---- a thing: id (2), not 0 and above the one before; type (1)
-unfoldable pub thing : Head → ℕ → Body ThingRecord
-thing h last = do
+-- ---- a thing: id (2), not 0, above the one before and not above the highest; type (1)
+unfoldable pub thing : Head → ℕ → ℕ → Body ThingRecord
+thing h highest last = do
   id ← number 2
   check (not (eqb id 0)) 6
   check (ltb last id) 7
+  check (leb id highest) 6
   t ← field 0 (h .types) 5
   done (record { id = id; thing = ofType (type t) })
 

@@ -13,7 +13,7 @@ use Rattle.matrix_records.specs.declared.answers.CellAt.the-variants as 
 
 -- a record's kind, what it says and the next position; or the number and the record's position
 abbrev pub ofHead : HeadAt → Told
-ofHead (head-at.Good kind count next) = told 0 (kind ∷ count ∷ next ∷ [])
+ofHead (head-at.Good kind count highest next) = told 0 (kind ∷ count ∷ highest ∷ next ∷ [])
 ofHead (head-at.Refused k at) = told k (at ∷ [])
 
 abbrev pub ofThing : ThingAt → Told
@@ -26,7 +26,7 @@ ofCell (cell-at.Refused k at) = told k (at ∷ [])
 
 -- the position that comes with a refusal, 0 with success
 abbrev pub headPlace : HeadAt → ℕ
-headPlace (head-at.Good kind count next) = 0
+headPlace (head-at.Good kind count highest next) = 0
 headPlace (head-at.Refused k at) = at
 
 abbrev pub thingPlace : ThingAt → ℕ

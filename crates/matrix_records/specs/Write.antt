@@ -4,10 +4,10 @@ use Prim.Native.Nat.{ℕ}
 use mathlib.Core.List.{List, [], _∷_, _++_}
 use Rattle.rights.specs.Numberings.{typeByte}
 use Rattle.records.specs.Bytes.{littleEndian}
-use Rattle.matrix_records.specs.Content.{ThingRecord, CellRecord}
+use Rattle.matrix_records.specs.Content.{Stated, ThingRecord, CellRecord}
 
-unfoldable pub headBytes : ℕ → ℕ → List ℕ
-headBytes n count = n ∷ count ∷ []
+unfoldable pub headBytes : ℕ → Stated → List ℕ
+headBytes n st = n ∷ st .count ∷ littleEndian 2 (st .highest)
 
 unfoldable pub thingBytes : ThingRecord → List ℕ
 thingBytes t = littleEndian 2 (t .id) ++ typeByte (t .thing .type) ∷ []

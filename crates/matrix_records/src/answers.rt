@@ -11,10 +11,18 @@ pub struct Front {
     pub next: usize,
 }
 
-// The number of things that a head states.
+// The number of things that a head states, and the highest id that there ever was.
 pub enum HeadAt {
-    Good { kind: u16, count: u8, next: usize },
-    Refused { number: u8, at: usize },
+    Good {
+        kind: u16,
+        count: u8,
+        highest: u16,
+        next: usize,
+    },
+    Refused {
+        number: u8,
+        at: usize,
+    },
 }
 
 pub enum ThingAt {
@@ -61,6 +69,7 @@ impl HeadAt {
             HeadAt::Good {
                 kind: _,
                 count: _,
+                highest: _,
                 next: _,
             } => 0,
             HeadAt::Refused { number, at: _ } => number,
@@ -75,6 +84,7 @@ impl HeadAt {
             HeadAt::Good {
                 kind: _,
                 count: _,
+                highest: _,
                 next: _,
             } => 0,
             HeadAt::Refused { number: _, at } => at,

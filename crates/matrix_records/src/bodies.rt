@@ -41,19 +41,27 @@ pub(crate) fn head_of(b: &[u8], h: Head, front: Front) -> HeadAt
             at,
         };
     };
-    if 2 < b.len() {
+    let last = records::field2_at(b, 2);
+    let Field2::Value(highest) = last else {
+        return HeadAt::Refused {
+            number: last.number(),
+            at,
+        };
+    };
+    if 4 < b.len() {
         return HeadAt::Refused { number: 3, at };
     }
     HeadAt::Good {
         kind: front.kind,
         count,
+        highest,
         next: front.next,
     }
 }
 
-// A thing behind one with this id, 0 for none.
-pub(crate) fn thing_of(b: &[u8], h: Head, last: u16, front: Front) -> ThingAt
-    ensures { λ r. ⌜ r ≡ thingOf front (whole (thing h last) (now (b .entry))) ⌝ }
+// A thing with an id up to the highest, behind one with the id `last`, 0 for none.
+pub(crate) fn thing_of(b: &[u8], h: Head, highest: u16, last: u16, front: Front) -> ThingAt
+    ensures { λ r. ⌜ r ≡ thingOf front (whole (thing h highest last) (now (b .entry))) ⌝ }
 {
     let at = front.at;
     let first = records::field2_at(b, 0);
@@ -68,6 +76,9 @@ pub(crate) fn thing_of(b: &[u8], h: Head, last: u16, front: Front) -> ThingAt
     }
     if id <= last {
         return ThingAt::Refused { number: 7, at };
+    }
+    if highest < id {
+        return ThingAt::Refused { number: 6, at };
     }
     let second = records::field_at(b, 2, 0, h.types, 5);
     let Field::Value(t) = second else {

@@ -57,9 +57,9 @@ pub fn read_head(s: &[u8], at: usize, kinds: Kinds, h: Head) -> HeadAt
     head_of(records::body(s, start, len), h, front)
 }
 
-// A thing's record, behind a thing with this id, 0 for none.
-pub fn read_thing(s: &[u8], at: usize, kinds: Kinds, h: Head, last: u16) -> ThingAt
-    ensures { λ r. ⌜ r ≡ readThing (now (s .entry)) at (kinds .0) h last ⌝ }
+// A thing's record, with an id up to the highest that the head states, behind a thing with the id `last`, 0 for none.
+pub fn read_thing(s: &[u8], at: usize, kinds: Kinds, h: Head, highest: u16, last: u16) -> ThingAt
+    ensures { λ r. ⌜ r ≡ readThing (now (s .entry)) at (kinds .0) h highest last ⌝ }
 {
     if !head_accepted(h) {
         return ThingAt::Refused { number: 27, at: 0 };
@@ -76,7 +76,7 @@ pub fn read_thing(s: &[u8], at: usize, kinds: Kinds, h: Head, last: u16) -> Thin
         at,
         next: start + len,
     };
-    thing_of(records::body(s, start, len), h, last, front)
+    thing_of(records::body(s, start, len), h, highest, last, front)
 }
 
 // A cell's record, of the first n things, behind a cell at a row and a column, 0 and 0 for none.

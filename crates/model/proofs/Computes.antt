@@ -5,7 +5,7 @@ use Rattle.laws.specs.Check.{_orElse_, must, passes, any, all, isSome, between,
 use Rattle.model.specs.Scheme.{isSubject, typeAt, idAt, creates, destroys, names, isNew, creatable, destroyable}
 use Rattle.model.specs.Request.{isId, answer, number, after, unlessFault, andThen, typeFault, placeFault, placesFault, holds, testsFault, act, operate, operateAll, carryOut, carryOutIf, step, run, answers}
 use Rattle.model.specs.Answers.{testPlace, allSteps, stepsOf, stepsTo, replyOf, replyTo, replyEach, replyBytes}
-use Rattle.model.specs.Papers.{mayCreate, changeCell, emptied, nowIs, nowHas, born, gone, papers}
+use Rattle.model.specs.Papers.{mayCreate, changeCell, emptied, nowIs, nowHas, reached, born, gone, papers}
 use Rattle.model.specs.Seats.{among, find, known, full, seat, thingIn, thingAt, mayTake, paperThings, place, cell, change, putThing, blank, add, remove, seats, standsFor}
 use Rattle.model.specs.Arrays.{commandOf, noCommand, schemeOf}
 use Rattle.model.specs.Accepted.{headFault, typeRange, rowFault, testFault, changeFault, thingFault, codeFault, operationFault, operationsFault, commandFault, zeroTest, zeroOperation, paddedCommand, zeroCommand, acceptedCommand, acceptedScheme, apart, acceptedThings, standing, acceptedPlaces, acceptedMatrix, zeroThing, acceptedSeat, allFrom}
@@ -32,7 +32,7 @@ requests-compute = tt
 
 -- the two forms of a matrix
 unfoldable pub papers-compute : Unit {0}
-unfolding mayCreate changeCell emptied nowIs nowHas born gone papers
+unfolding mayCreate changeCell emptied nowIs nowHas reached born gone papers
 papers-compute = tt
 
 unfoldable pub seats-compute : Unit {0}

@@ -1,6 +1,6 @@
 -- What an accepted matrix is, place by place: the facts behind the computed test, as the proofs use them.
 -- Assumes nothing.
-use Prim.Native.Nat.{ℕ, _+_, _*_, _^_, _<_}
+use Prim.Native.Nat.{ℕ, _+_, _*_, _^_, _≤_, _<_}
 use mathlib.Core.Path.{_≡_}
 use mathlib.Core.Logic.{_≢_}
 use mathlib.Core.Bool.{not}
@@ -16,6 +16,7 @@ pub record HeldThings (s : Head) (th : Things) : Type 0 where
   pub idRoom : length (th .ids) ≡ 48
   pub typeRoom : length (th .types) ≡ 48
   pub apart : (i j : ℕ) → i < 48 → j < 48 → getD (th .ids) i 0 ≢ 0 → getD (th .ids) i 0 ≡ getD (th .ids) j 0 → i ≡ j
+  pub reach : th .highest ≤ 65535
   -- what the test of one seat says is read off by the laws of `HeldLaws`; a new rule for seats needs no field here
   pub seat : (i : ℕ) → i < 48 → T (acceptedSeat s th (getD (th .ids) i 0) (thingIn th i))
 

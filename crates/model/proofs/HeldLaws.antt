@@ -78,31 +78,34 @@ from-all f i (suc k) h =
     and-both (f i) _ (rw (add-zero i) at (h zero (omega arith))) (from-all f (suc i) k (λ j l. rw (suc-add i j, ← (add-suc i j)) (h (suc j) (omega arith))))
 
 -- what the test of a seat says, and what it takes
-pub seat-small : (s : Head) (th : Things) (x : ℕ) (t : Thing) → T (acceptedSeat s th x t) → x ≤ 65535
+pub seat-below : (s : Head) (th : Things) (x : ℕ) (t : Thing) → T (acceptedSeat s th x t) → x ≤ th .highest
 unfolding acceptedSeat
-seat-small s th x t k = go (eqb x 0) refl k
+seat-below s th x t k = go (eqb x 0) refl k
   where
-    go : (b : Bool) → eqb x 0 ≡ b → T (cond b (zeroThing t) (leb x 65535 && ltb (t .type .0) (s .types))) → x ≤ 65535
+    go : (b : Bool) → eqb x 0 ≡ b → T (cond b (zeroThing t) (leb x (th .highest) && ltb (t .type .0) (s .types))) → x ≤ th .highest
     go true e u = rw (eqb-true x 0 e) zero-le
-    go false e u = leb→le x 65535 (search and-left)
+    go false e u = leb→le x (th .highest) (search and-left)
 
 pub seat-typed : (s : Head) (th : Things) (x : ℕ) (t : Thing) → T (acceptedSeat s th x t) → x ≢ 0 → t .type .0 < s .types
 unfolding acceptedSeat
-seat-typed s th x t k nz = let u = rw (eqb-not x 0 nz) at k in ltb→lt (t .type .0) (s .types) (and-right (leb x 65535) (ltb (t .type .0) (s .types)) u)
+seat-typed s th x t k nz = let u = rw (eqb-not x 0 nz) at k in ltb→lt (t .type .0) (s .types) (and-right (leb x (th .highest)) (ltb (t .type .0) (s .types)) u)
 
-pub seat-ok : (s : Head) (th : Things) (x : ℕ) (t : Thing) → x ≢ 0 → x ≤ 65535 → t .type .0 < s .types → T (acceptedSeat s th x t)
+pub seat-ok : (s : Head) (th : Things) (x : ℕ) (t : Thing) → x ≢ 0 → x ≤ th .highest → t .type .0 < s .types → T (acceptedSeat s th x t)
 unfolding acceptedSeat
 seat-ok s th x t nz h typed =
-    let low = le→leb x 65535 h in
+    let low = le→leb x (th .highest) h in
     let type = lt→ltb (t .type .0) (s .types) typed in
     rw (eqb-not x 0 nz) (search and-both)
 
-pub ids-small : (s : Head) (th : Things) → HeldThings s th → (i : ℕ) → getD (th .ids) i 0 ≤ 65535
-ids-small s th ok i = go (decLt i 48)
+pub ids-below : (s : Head) (th : Things) → HeldThings s th → (i : ℕ) → getD (th .ids) i 0 ≤ th .highest
+ids-below s th ok i = go (decLt i 48)
   where
-    go : Dec (i < 48) → getD (th .ids) i 0 ≤ 65535
-    go (yes l) = seat-small s th _ _ (ok .seat i l)
+    go : Dec (i < 48) → getD (th .ids) i 0 ≤ th .highest
+    go (yes l) = seat-below s th _ _ (ok .seat i l)
     go (no n) = rw (getD-beyond (th .ids) i 0 (rw (ok .idRoom) (omega arith))) zero-le
+
+pub ids-small : (s : Head) (th : Things) → HeldThings s th → (i : ℕ) → getD (th .ids) i 0 ≤ 65535
+ids-small s th ok i = omega (arith, ids-below s th ok i, ok .reach)
 
 -- ---- places of cells
 
@@ -170,6 +173,7 @@ held-things s th t =
       idRoom = room;
       typeRoom = types;
       apart = rw room at (apart-at (th .ids) (search (and-left, and-right)));
+      reach = leb→le (th .highest) 65535 (search (and-left, and-right));
       seat = λ i l. rw (zero-add i) at (from-at (λ i. acceptedSeat s th (getD (th .ids) i 0) (thingIn th i)) 0 48 seats i l);
     }
 
@@ -182,6 +186,7 @@ accepted-things s th h =
     let room = equal (length (th .ids)) 48 (h .idRoom) in
     let types = equal (length (th .types)) 48 (h .typeRoom) in
     let one = ids-apart s th h in
+    let reach = le→leb (th .highest) 65535 (h .reach) in
     let seats = from-all (λ i. acceptedSeat s th (getD (th .ids) i 0) (thingIn th i)) 0 48 (λ i l. rw (zero-add i) (h .seat i l)) in
     search and-both
 

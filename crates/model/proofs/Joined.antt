@@ -43,5 +43,8 @@ joined s m q ok of = on-paper s (step seats s m q) (step papers s (standsFor m) 
 pub kept : Kept
 kept s m q ok of = accepted (s .head) _ (after-one s ok m of q .held)
 
+pub run-kept : (s : Scheme) (m : Matrix) (qs : List Request) → T (acceptedScheme s) → T (acceptedMatrix (s .head) m) → T (acceptedMatrix (s .head) (run seats s m qs))
+run-kept s m qs ok of = accepted (s .head) _ (after-all s ok m of qs .1 .held)
+
 pub run-joined : RunJoined
 run-joined = record { sameAnswers = λ s m qs ok of. after-all s ok m of qs .0; sameMatrix = λ s m qs ok of. sym (after-all s ok m of qs .1 .is) }

@@ -22,3 +22,4 @@ pub mod ReplyLaws
 pub mod Numbers
 pub mod FirstTest
 pub mod StepsTaken
+pub mod NeverAgain

@@ -15,7 +15,7 @@ use Rattle.rights.specs.declared.Right.{Right}
 use Rattle.rights.specs.declared.ThingType.{ThingType}
 use Rattle.laws.specs.Check.{isSome}
 use Rattle.model.specs.Request.{Request, after, act, step}
-use Rattle.model.specs.Papers.{Population, State, countIds, howMany, nowIs, nowHas, born, gone, papers}
+use Rattle.model.specs.Papers.{Population, State, countIds, howMany, nowIs, nowHas, reached, born, gone, papers}
 use Rattle.model.specs.Seats.{Matrix, among, known, full, thingAt, paperThings, standsFor}
 use Rattle.model.specs.Accepted.{apart}
 use Rattle.model.specs.Promises.{AtMost48}
@@ -132,7 +132,7 @@ few s m h = rw (population s m h, ← (h .things .idRoom)) (taken-le (m .things 
 
 -- at most one more thing than before; and no more than before
 create-many : (x : ℕ) (t : ThingType) (m : Population) → howMany (born x t m) ≤ suc (howMany m)
-unfolding howMany born nowHas nowIs
+unfolding howMany born reached nowHas nowIs
 create-many x t m = count-change (λ a. isSome (m .thing a)) _ x (λ a n. rw (eqb-not a x n)) 65535
 
 destroy-many : (x : ℕ) (m : Population) → howMany (gone x m) ≤ howMany m

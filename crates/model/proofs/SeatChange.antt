@@ -23,8 +23,8 @@ use Rattle.model.proofs.Stands.{Cell}
 use Rattle.model.proofs.Find.{known-nonzero, seat-is, some-known, some-thing, seat-lt}
 use Rattle.model.specs.Scheme.{noType}
 
-pub things-eq : (p q : Population) → ((x : ℕ) → p .thing x ≡ q .thing x) → p ≡ q
-things-eq p q f = λ i. record { thing = λ x. f x i }
+pub things-eq : (p q : Population) → ((x : ℕ) → p .thing x ≡ q .thing x) → p .highest ≡ q .highest → p ≡ q
+things-eq p q f h = λ i. record { thing = λ x. f x i; highest = h i }
 
 pub state-eq : (p q : State) → p .things ≡ q .things → ((x y : ℕ) → p .rights x y ≡ q .rights x y) → p ≡ q
 state-eq p q e g = λ i. record { things = e i; rights = λ x y. g x y i }

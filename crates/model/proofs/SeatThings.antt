@@ -1,6 +1,6 @@
 -- Create and destroy among the seats: both put something at one seat and leave its cells empty, and stand for what the papers do.
 -- Assumes nothing.
-use Prim.Native.Nat.{ℕ, zero, suc, _+_, _*_, _/_, _%_, _^_, _<_}
+use Prim.Native.Nat.{ℕ, zero, suc, _+_, _*_, _/_, _%_, _^_, _≤_, _<_, max}
 use mathlib.Core.Path.{_≡_, refl, sym, ap, _∙_}
 use mathlib.Core.Logic.{_≢_}
 use mathlib.Core.Bool.{Bool, true, false, not, cond, _&&_, _||_}
@@ -8,23 +8,23 @@ use mathlib.Core.Option.{Option, none, some}
 use mathlib.Core.List.{List, [], _∷_}
 use native.Mathlib.Nat.{suc-add, add-suc, add-zero, zero-add}
 use native.Mathlib.Omega.{arith}
-use lib.Dec.{T, eqb, eqb→eq, eqb-refl, leb→le, not-T}
+use lib.Dec.{T, eqb, leb, ltb, eqb→eq, eqb-refl, leb→le, le→leb, ltb→lt, not-T}
 use lib.ListN.{length, getD, length-set}
 use lib.Seq.{getD-set-same, getD-set-other, ext-getD}
 use lib.Pow.{pow-pos}
 use borrow.Author.Tests.{eqb-true, eqb-false}
 use Rattle.rights.specs.declared.ThingType.{ThingType}
 use Rattle.model.specs.Request.{Thing, ofType, isId}
-use Rattle.model.specs.Papers.{mayCreate, nowIs, nowHas, born, gone, emptied, papers}
+use Rattle.model.specs.Papers.{Population, mayCreate, nowIs, nowHas, reached, born, gone, emptied, papers}
 use Rattle.model.specs.Seats.{Matrix, among, known, seat, thingIn, thingAt, mayTake, paperThings, place, cell, putThing, blank, add, remove, standsFor}
 use Rattle.model.specs.Accepted.{zeroThing, acceptedSeat, standing}
 use Rattle.model.specs.declared.Head.{Head}
 use Rattle.model.specs.declared.Things.{Things}
-use Rattle.laws.proofs.Bools.{is-true, is-false, and-left, and-right, eqb-not}
+use Rattle.laws.proofs.Bools.{is-true, is-false, from-true, and-left, and-right, and-both, eqb-not}
 use Rattle.model.proofs.Held.{HeldThings, HeldCells, Held}
 use Rattle.model.proofs.Stands.{fresh}
 use Rattle.model.proofs.Find.{is-known, find-lt, find-is, among-other, find-other, known-nonzero, seat-is, none-known, seat-lt, known-at, seat-at}
-use Rattle.model.proofs.HeldLaws.{seat-ok}
+use Rattle.model.proofs.HeldLaws.{seat-ok, ids-below}
 use Rattle.model.proofs.SeatChange.{things-eq, state-eq, stored, cond-when}
 use Rattle.model.specs.Scheme.{noType}
 
@@ -78,20 +78,29 @@ module _ (s : Head) (th : Things) (p y : ℕ) (t : Thing) (lp : p < 48) (ok : He
   put-here : (P : ℕ → Thing → Type 0) → P y t → P (getD (putThing p y t th .ids) p 0) (thingIn (putThing p y t th) p)
   put-here P h = put-at P p (λ e. h) (λ ne. absurd (ne refl))
 
-  -- a put changes no other seat's test
+  -- the highest only rises, so what passed the test of a seat passes it after a put too
   same-seat : (v : ℕ) (w : Thing) → T (acceptedSeat s th v w) → T (acceptedSeat s (putThing p y t th) v w)
-  unfolding acceptedSeat
-  same-seat v w k = k
+  unfolding acceptedSeat putThing
+  same-seat v w = go (eqb v 0)
+    where
+      go : (b : Bool) → T (cond b (zeroThing w) (leb v (th .highest) && ltb (w .type .0) (s .types))) →
+          T (cond b (zeroThing w) (leb v (max (th .highest) y) && ltb (w .type .0) (s .types)))
+      go true k = k
+      go false k =
+          let low = leb→le v (th .highest) (search and-left) in
+          let high = le→leb v (max (th .highest) y) (omega arith) in
+          search (and-left, and-right, and-both)
 
-  put-things : T (acceptedSeat s th y t) → (y ≢ 0 → (j : ℕ) → j < 48 → getD (th .ids) j 0 ≢ y) → HeldThings s (putThing p y t th)
+  put-things : T (acceptedSeat s (putThing p y t th) y t) → y ≤ 65535 → (y ≢ 0 → (j : ℕ) → j < 48 → getD (th .ids) j 0 ≢ y) → HeldThings s (putThing p y t th)
   unfolding putThing
-  put-things fits new = record {
+  put-things fits small new = record {
     idRoom = simp length-set (ok .idRoom);
     typeRoom = simp length-set (ok .typeRoom);
     apart = λ i j li lj. put-at (λ v w. v ≢ 0 → v ≡ getD (putThing p y t th .ids) j 0 → i ≡ j) i
         (λ ei nz. put-at (λ v w. y ≡ v → i ≡ j) j (λ ej e. omega arith) (λ ej e. absurd (new nz j lj (sym e))))
         (λ ei nz. put-at (λ v w. getD (th .ids) i 0 ≡ v → i ≡ j) j (λ ej e. absurd (new (λ z. nz (e ∙ z)) i li e)) (λ ej e. ok .apart i j li lj nz e));
-    seat = λ i l. put-at (λ v w. T (acceptedSeat s (putThing p y t th) v w)) i (λ e. same-seat y t fits) (λ ne. same-seat _ _ (ok .seat i l));
+    reach = omega (arith, ok .reach);
+    seat = λ i l. put-at (λ v w. T (acceptedSeat s (putThing p y t th) v w)) i (λ e. fits) (λ ne. same-seat _ _ (ok .seat i l));
   }
 
 standing-other : (s : Head) (th : Things) (p y : ℕ) (t : Thing) (i j : ℕ) → i ≢ p → j ≢ p → standing s (putThing p y t th) i j ≡ standing s th i j
@@ -191,9 +200,9 @@ module _ (s : Head) (m : Matrix) (p y : ℕ) (t : Thing) (x : ℕ)
             rw (seat-other a (f refl) (search and-left), seat-other b (g refl) (search and-right))))
 
     put-stands : (now : Option Thing) → thingAt then x ≡ now →
-        standsFor (put p y t m) ≡ record { things = nowHas x now (standsFor m .things); rights = emptied x (standsFor m .rights) }
-    unfolding standsFor paperThings put nowHas nowIs
-    put-stands now e = state-eq _ _ (things-eq _ _ (λ a. go a (eqb a x) refl)) put-rights
+        standsFor (put p y t m) ≡ record { things = reached y (nowHas x now (standsFor m .things)); rights = emptied x (standsFor m .rights) }
+    unfolding standsFor paperThings put putThing reached nowHas nowIs
+    put-stands now e = state-eq _ _ (things-eq _ _ (λ a. go a (eqb a x) refl) refl) put-rights
       where
         go : (a : ℕ) (b : Bool) → eqb a x ≡ b → thingAt then a ≡ cond b now (thingAt (m .things) a)
         go a true q = let z : a ≡ x = eqb-true a x q in rw z e
@@ -201,10 +210,17 @@ module _ (s : Head) (m : Matrix) (p y : ℕ) (t : Thing) (x : ℕ)
 
 -- ---- create: x takes a free seat
 
--- memory and papers agree on what may be created
+-- memory and papers agree on what may be created: no thing's id is above the highest
 pub may-law : (s : Head) (th : Things) → HeldThings s th → (x : ℕ) → mayTake th x ≡ mayCreate (paperThings th) x
 unfolding mayTake mayCreate paperThings
-may-law s th ok x = rw (is-known th x)
+may-law s th ok x = go (known th x) (ltb (th .highest) x) refl refl ∙ rw (is-known th x)
+  where
+    go : (k l : Bool) → known th x ≡ k → ltb (th .highest) x ≡ l → ltb (th .highest) x ≡ (not (known th x) && ltb (th .highest) x)
+    go true true e f =
+        let is : getD (th .ids) (seat th x) 0 ≡ x = seat-is th x (from-true e) in
+        absurd (omega (arith, ids-below s th ok (seat th x), ltb→lt (th .highest) x (from-true f)))
+    go true false e f = rw (e, f)
+    go false l e f = rw e
 
 module _ (s : Head) (m : Matrix) (ok : Held s m) (x : ℕ) (t : ThingType) (id : T (isId x)) (typed : t .0 < s .types)
     (new : thingAt (m .things) x ≡ none) (free : T (among (m .things .ids) 0)) where
@@ -228,14 +244,15 @@ module _ (s : Head) (m : Matrix) (ok : Held s m) (x : ℕ) (t : ThingType) (id :
   put-free = rw (free-blank s (m .things) (m .cells) at0 (ok .cells) at0-free)
 
   put-new : Held s (put at0 x (ofType t) m)
-  unfolding put isId
+  unfolding put putThing isId
   put-new = record {
-    things = put-things s (m .things) at0 x (ofType t) at0-lt (ok .things) (seat-ok s (m .things) x (ofType t) id-nonzero (leb→le x 65535 (search and-right)) typed)
+    things = put-things s (m .things) at0 x (ofType t) at0-lt (ok .things)
+        (seat-ok s (putThing at0 x (ofType t) (m .things)) x (ofType t) id-nonzero (omega arith) typed) (leb→le x 65535 (search and-right))
         (λ nz j lj e. none-known (m .things) x new (rw e at (known-at s (m .things) (ok .things) j lj (λ z. nz (sym e ∙ z)))));
     cells = put-cells s (m .things) (m .cells) at0 x (ofType t) (ok .cells);
   }
 
-  put-new-stands : standsFor (put at0 x (ofType t) m) ≡ record { things = nowHas x (some (ofType t)) (standsFor m .things); rights = emptied x (standsFor m .rights) }
+  put-new-stands : standsFor (put at0 x (ofType t) m) ≡ record { things = reached x (nowHas x (some (ofType t)) (standsFor m .things)); rights = emptied x (standsFor m .rights) }
   unfolding thingAt put
   put-new-stands =
       let th = putThing at0 x (ofType t) (m .things) in
@@ -263,6 +280,10 @@ module _ (s : Head) (m : Matrix) (ok : Held s m) (x : ℕ) (t : ThingType) (id :
 
 -- ---- destroy: nobody takes the seat of x
 
+reached-none : (th : Population) → reached 0 th ≡ th
+unfolding reached
+reached-none th = things-eq _ _ (λ x. refl) (omega arith)
+
 module _ (s : Head) (m : Matrix) (ok : Held s m) (x : ℕ) (there : T (known (m .things) x)) where
   abbrev at : ℕ
   at = seat (m .things) x
@@ -270,14 +291,14 @@ module _ (s : Head) (m : Matrix) (ok : Held s m) (x : ℕ) (there : T (known (m 
   at-lt : at < 48
   at-lt = seat-lt s (m .things) (ok .things) x there
 
-  free-seat : T (acceptedSeat s (m .things) 0 (ofType noType))
+  free-seat : T (acceptedSeat s (putThing at 0 (ofType noType) (m .things)) 0 (ofType noType))
   unfolding acceptedSeat zeroThing
   free-seat = tt
 
   pub remove-held : Held s (remove x m)
   unfolding remove
   remove-held = record {
-    things = put-things s (m .things) at 0 (ofType noType) at-lt (ok .things) free-seat (λ nz. absurd (nz refl));
+    things = put-things s (m .things) at 0 (ofType noType) at-lt (ok .things) free-seat (omega arith) (λ nz. absurd (nz refl));
     cells = put-cells s (m .things) (m .cells) at 0 (ofType noType) (ok .cells);
   }
 
@@ -292,6 +313,6 @@ module _ (s : Head) (m : Matrix) (ok : Held s m) (x : ℕ) (there : T (known (m 
 
   pub remove-stands : standsFor (remove x m) ≡ papers .destroy x (standsFor m)
   unfolding papers gone thingAt put remove
-  remove-stands =
-      put-stands s m at 0 (ofType noType) x (λ a nz ne e. nz (sym e)) (λ a nz ne e. ne (sym e ∙ seat-is (m .things) x there)) at-lt (ok .things)
-      (remove-held .things) (λ h. absurd (not-there h)) none (rw (is-false (known (putThing at 0 (ofType noType) (m .things)) x) not-there))
+  remove-stands = rw (reached-none (nowHas x none (standsFor m .things))) at
+      (put-stands s m at 0 (ofType noType) x (λ a nz ne e. nz (sym e)) (λ a nz ne e. ne (sym e ∙ seat-is (m .things) x there)) at-lt (ok .things)
+      (remove-held .things) (λ h. absurd (not-there h)) none (rw (is-false (known (putThing at 0 (ofType noType) (m .things)) x) not-there)))

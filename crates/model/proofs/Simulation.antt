@@ -19,7 +19,7 @@ use Rattle.laws.specs.Check.{_orElse_, must, passes, isSome, any, Each}
 use Rattle.model.specs.Scheme.{parametersOf, testsOf, operationsOf, commandsOf, typeAt, idAt, creates, isNew}
 use Rattle.model.specs.Request.{Request, Thing, ofType, isId, View, at, Outcome, done, refused, unlessFault, andThen, typeFault, placeFault, placesFault}
 use Rattle.model.specs.Request.{holds, testsFault, act, operate, operateAll, carryOut, carryOutIf, step}
-use Rattle.model.specs.Papers.{State, nowIs, nowHas, born, papers}
+use Rattle.model.specs.Papers.{State, nowIs, nowHas, reached, born, papers}
 use Rattle.model.specs.Accepted.{group, acceptedScheme}
 use Rattle.model.specs.declared.Test.{Test}
 use Rattle.model.specs.declared.Code.{Code}
@@ -150,7 +150,7 @@ module _ {M : Type 0} (s : Head) (view : View M) (R : M → State → Type 0) (s
     -- a thing that exists keeps its type, since the created one did not exist
     created : (p : State) (o : Operation) (os : List Operation) → o .code ≡ Create → p .things .thing (idAt ids (o .row)) ≡ none → Fit types ids p (o ∷ os)
         → Fit types ids (papers .create (idAt ids (o .row)) (typeAt types (o .row)) p) os
-    unfolding papers born nowHas isNew any creates
+    unfolding papers born reached nowHas isNew any creates
     created p o os e new fit q h n = go (sameParameter (o .row) q) refl
       where
         go : (b : Bool) → sameParameter (o .row) q ≡ b

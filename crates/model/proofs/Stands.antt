@@ -12,8 +12,9 @@ use Rattle.model.specs.Scheme.{isSubject}
 use Rattle.model.specs.Request.{Thing, View, Outcome, done, refused, isId}
 use Rattle.model.specs.Papers.{Population, State, mayCreate, papers}
 use Rattle.model.specs.declared.Head.{Head}
+use Rattle.laws.proofs.Bools.{and-left}
 
-absent : {A : Type 0} (o : Option A) → T (not (isSome o)) → o ≡ none
+pub absent : {A : Type 0} (o : Option A) → T (not (isSome o)) → o ≡ none
 unfolding isSome
 absent none t = refl
 absent (some a) t = absurd t
@@ -21,7 +22,7 @@ absent (some a) t = absurd t
 -- what may be created doesn't exist
 pub fresh : (th : Population) (x : ℕ) → T (mayCreate th x) → th .thing x ≡ none
 unfolding mayCreate
-fresh th x t = absent _ t
+fresh th x t = absent _ (and-left (not (isSome (th .thing x))) _ t)
 
 -- [x, y] exists: x is a subject, and y a thing
 pub record Cell (s : Head) (p : State) (x y : ℕ) : Type 0 where

@@ -16,7 +16,7 @@ use Rattle.rights.specs.declared.Parameter.{Parameter}
 use Rattle.laws.specs.Check.{_orElse_, must, any, all, Each}
 use Rattle.model.specs.Scheme.{parametersOf, operationsOf, isSubject, idAt, typeAt, keepsThings, creates, isNew}
 use Rattle.model.specs.Request.{Request, at, Outcome, andThen, holds, testsFault, act, operate, operateAll, carryOut, carryOutIf, step}
-use Rattle.model.specs.Papers.{Population, State, cellExists, changeCell, emptied, nowHas, born, gone, papers}
+use Rattle.model.specs.Papers.{Population, State, cellExists, changeCell, emptied, nowHas, reached, born, gone, papers}
 use Rattle.model.specs.Accepted.{acceptedScheme}
 use Rattle.model.specs.Translation.{verdict, changedBy, changedByAll, changesCell, Related, TestBecomes, ChangeBecomes, ThingBecomes}
 use Rattle.model.specs.Translation.{OperationsBecome, end, change, thing, CommandBecomes, Translates, Translation}
@@ -153,14 +153,14 @@ module _ (Rel : Bool → ℕ → ℕ → Type 0) where
         record {
           sameThings = ap f (r .sameThings);
           cells = cells-empty (λ u v. Rel (cellExists h now u v)) _ _ x (λ u v. empty _)
-              (λ u v nu nv. rw (exists-other a _ _ x u v (same (a .things)) nu nv) (r .cells u v));
+              (λ u v nu nv. rw (exists-other a (f (a .things)) _ x u v (same (a .things)) nu nv) (r .cells u v));
         }
       where
         now : State
         now = record { things = f (a .things); rights = emptied x (a .rights) }
 
     born-other : (x : ℕ) (t : ThingType) (th : Population) (w : ℕ) → w ≢ x → born x t th .thing w ≡ th .thing w
-    unfolding born nowHas
+    unfolding born reached nowHas
     born-other x t th = now-other x _ (th .thing)
 
     gone-other : (x : ℕ) (th : Population) (w : ℕ) → w ≢ x → gone x th .thing w ≡ th .thing w

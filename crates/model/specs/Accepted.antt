@@ -142,9 +142,9 @@ apart (x ∷ xs) = (eqb x 0 || not (among xs x)) && apart xs
 unfoldable pub zeroThing : Thing → Bool
 zeroThing t = zeroType (t .type)
 
--- an id from 1 to 65535 with a type of the scheme, or a free seat
+-- an id from 1 to the highest that there ever was, with a type of the scheme; or a free seat
 unfoldable pub acceptedSeat : Head → Things → ℕ → Thing → Bool
-acceptedSeat h th x t = cond (eqb x 0) (zeroThing t) (leb x 65535 && typeBelow (t .type) (h .types))
+acceptedSeat h th x t = cond (eqb x 0) (zeroThing t) (leb x (th .highest) && typeBelow (t .type) (h .types))
 
 -- every number from i on passes, k of them
 unfoldable pub allFrom : (ℕ → Bool) → ℕ → ℕ → Bool
@@ -155,6 +155,7 @@ unfoldable pub acceptedThings : Head → Things → Bool
 acceptedThings h th =
     eqb (length (th .ids)) 48
     && eqb (length (th .types)) 48
+    && leb (th .highest) 65535
     && apart (th .ids)
     && allFrom (λ i. acceptedSeat h th (getD (th .ids) i 0) (thingIn th i)) 0 48
 

@@ -1,9 +1,9 @@
 -- The papers' view of a matrix (document 000, section 2.1: the protection state), by ids alone.
 -- Assumes nothing.
-use Prim.Native.Nat.{ℕ, zero, suc, _+_}
+use Prim.Native.Nat.{ℕ, zero, suc, _+_, max}
 use mathlib.Core.Bool.{Bool, false, not, cond, _&&_, _||_}
 use mathlib.Core.Option.{Option, none, some}
-use lib.Dec.{eqb, leb}
+use lib.Dec.{eqb, leb, ltb}
 use Rattle.rights.specs.Sets.{enterRight, deleteRight}
 use Rattle.rights.specs.declared.ThingType.{ThingType}
 use Rattle.laws.specs.Check.{isSome}
@@ -11,9 +11,10 @@ use Rattle.model.specs.Scheme.{isSubject}
 use Rattle.model.specs.Request.{Thing, ofType, View}
 use Rattle.model.specs.declared.Head.{Head}
 
--- OBJ and t: which things exist, and what each is
+-- OBJ and t: which things exist, and what each is; and the highest id that there ever was
 pub record Population : Type 0 where
   pub thing : ℕ → Option Thing
+  pub highest : ℕ
 
 -- and AM: the set of rights in [X, Y], empty where there is no such cell
 pub record State : Type 0 where
@@ -37,9 +38,9 @@ countIds (suc k) f = countIds k f + cond (f (suc k)) 1 0
 unfoldable pub howMany : Population → ℕ
 howMany th = countIds 65535 (λ x. isSome (th .thing x))
 
--- an id may be created if it doesn't exist
+-- an id may be created if it doesn't exist and is above the highest that there ever was
 unfoldable pub mayCreate : Population → ℕ → Bool
-mayCreate th x = not (isSome (th .thing x))
+mayCreate th x = not (isSome (th .thing x)) && ltb (th .highest) x
 
 -- one cell changed; all cells of X emptied
 unfoldable pub changeCell : (ℕ → ℕ) → ℕ → ℕ → (ℕ → ℕ → ℕ) → ℕ → ℕ → ℕ
@@ -53,10 +54,14 @@ unfoldable pub nowIs : ℕ → Option Thing → (ℕ → Option Thing) → ℕ �
 nowIs x now thing a = cond (eqb a x) now (thing a)
 
 unfoldable pub nowHas : ℕ → Option Thing → Population → Population
-nowHas x now th = record { thing = nowIs x now (th .thing) }
+nowHas x now th = record { thing = nowIs x now (th .thing); highest = th .highest }
+
+-- there was an X, so the highest id is at least X
+unfoldable pub reached : ℕ → Population → Population
+reached x th = record { thing = th .thing; highest = max (th .highest) x }
 
 unfoldable pub born : ℕ → ThingType → Population → Population
-born x t th = nowHas x (some (ofType t)) th
+born x t th = reached x (nowHas x (some (ofType t)) th)
 
 unfoldable pub gone : ℕ → Population → Population
 gone x th = nowHas x none th

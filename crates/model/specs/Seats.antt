@@ -1,10 +1,10 @@
 -- The seats' view of a matrix, which is what lives in memory: 48 seats, and a cell [X, Y] at row seat times 48 plus column seat.
 -- A created thing takes the first free seat; no create or destroy moves another thing or its cells. Assumes nothing.
-use Prim.Native.Nat.{ℕ, zero, suc, _+_, _*_, _/_, _%_}
+use Prim.Native.Nat.{ℕ, zero, suc, _+_, _*_, _/_, _%_, max}
 use mathlib.Core.Bool.{Bool, false, not, cond, _&&_, _||_}
 use mathlib.Core.Option.{Option, none, some}
 use mathlib.Core.List.{List, [], _∷_}
-use lib.Dec.{eqb}
+use lib.Dec.{eqb, ltb}
 use lib.ListN.{getD, set, replicate}
 use Rattle.rights.specs.Sets.{enterRight, deleteRight}
 use Rattle.rights.specs.declared.ThingType.{ThingType}
@@ -21,9 +21,13 @@ pub record Matrix : Type 0 where
 abbrev pub matrixOf : Things → List ℕ → Matrix
 matrixOf th cells = record { things = th; cells = cells }
 
--- every seat is free
+-- every seat is free, and there never was a thing
 abbrev pub noThings : Things
-noThings = record { ids = replicate 48 0; types = replicate 48 noType }
+noThings = record { ids = replicate 48 0; types = replicate 48 noType; highest = 0 }
+
+-- the same seats, where x is the highest id that there ever was
+abbrev pub withHighest : ℕ → Things → Things
+withHighest x th = record { ids = th .ids; types = th .types; highest = x }
 
 -- is x among the ids, and at which seat first?
 unfoldable pub among : List ℕ → ℕ → Bool
@@ -50,13 +54,13 @@ thingIn th i = record { type = getD (th .types) i noType }
 unfoldable pub thingAt : Things → ℕ → Option Thing
 thingAt th x = cond (known th x) (some (thingIn th (seat th x))) none
 
--- may x take a seat?
+-- may x take a seat? Only above the highest; and above it, in an accepted matrix, no id is a thing's
 unfoldable pub mayTake : Things → ℕ → Bool
-mayTake th x = not (known th x)
+mayTake th x = ltb (th .highest) x
 
 -- the papers' things that a memory stands for
 unfoldable pub paperThings : Things → Population
-paperThings th = record { thing = thingAt th }
+paperThings th = record { thing = thingAt th; highest = th .highest }
 
 -- where the cell of row X and column Y stands, and what it holds
 unfoldable pub place : Things → ℕ → ℕ → ℕ
@@ -68,9 +72,9 @@ cell m x y = getD (m .cells) (place (m .things) x y) 0
 unfoldable pub change : (ℕ → ℕ) → ℕ → ℕ → Matrix → Matrix
 change f x y m = record { things = m .things; cells = set (m .cells) (place (m .things) x y) (f (cell m x y)) }
 
--- the thing at seat p is x, and is t
+-- the thing at seat p is x, and is t; the highest id is at least x (0, for nobody, never raises it)
 unfoldable pub putThing : ℕ → ℕ → Thing → Things → Things
-putThing p x t th = record { ids = set (th .ids) p x; types = set (th .types) p (t .type) }
+putThing p x t th = record { ids = set (th .ids) p x; types = set (th .types) p (t .type); highest = max (th .highest) x }
 
 -- the cells with row p and column p emptied; k is the place of the first cell of the list
 unfoldable pub blank : ℕ → ℕ → List ℕ → List ℕ

@@ -62,10 +62,12 @@ pub struct Scheme {
     pub commands: [Command; Scheme::PLACES],
 }
 
-// The things of a matrix by seat; a seat whose id is 0 is free. The cells are kept apart, in a list of 48 times 48 sets.
+// The things of a matrix by seat, where a seat whose id is 0 is free; and the highest id that there ever was. The cells are kept apart, in a list of 48
+// times 48 sets.
 pub struct Things {
     pub ids: [u16; Things::LIMIT],
     pub types: [ThingType; Things::LIMIT],
+    pub highest: u16,
 }
 
 // Why a request was refused: the outline's number, and the place, from 0, of the test (14) or of the operation (15 to 17) at fault; 0 with every other

@@ -4,12 +4,11 @@ use Prim.Native.Nat.{ℕ, zero, suc, _≤_, _<_}
 use mathlib.Core.Path.{_≡_, refl, sym, _∙_}
 use mathlib.Core.Bool.{Bool, true, false, not, cond, _||_}
 use mathlib.Core.List.{List, [], _∷_}
-use native.Mathlib.Decide.{decLe}
 use native.Mathlib.Omega.{arith}
-use lib.Dec.{eqb, ltb, leb, leb·suc-suc}
+use lib.Dec.{eqb, ltb, leb·suc-suc}
 use lib.ListN.{length}
-use borrow.Author.Tests.{lt-ltb, le-ltb, le-leb, lt-leb, ne-eqb}
-use Rattle.model.specs.Seats.{among, find, known, full, mayTake}
+use borrow.Author.Tests.{lt-ltb, le-ltb, ne-eqb}
+use Rattle.model.specs.Seats.{among, find, known, full}
 use Rattle.model.specs.declared.Things.{Things}
 
 among-length : (ids : List ℕ) (x : ℕ) → among ids x ≡ ltb (find ids x) (length ids)
@@ -29,14 +28,6 @@ module _ (th : Things) (room : length (th .ids) ≡ 48) where
   unfolding known
   known-found x i nz e = rw (ne-eqb x 0 nz) (among-found x i e)
 
-  pub take-found : (x i : ℕ) → (x ≡ 0 → ⊥) → i ≡ find (th .ids) x → leb 48 i ≡ mayTake th x
-  unfolding mayTake
-  take-found x i nz e = rw (known-found x i nz e) (turned (decLe 48 i))
-    where
-      turned : Dec (48 ≤ i) → leb 48 i ≡ not (ltb i 48)
-      turned (yes h) = rw (le-leb 48 i h, le-ltb i 48 h)
-      turned (no h) = rw (lt-leb 48 i (omega (arith, h)), lt-ltb i 48 (omega (arith, h)))
-
   pub full-found : (i : ℕ) → i ≡ find (th .ids) 0 → 48 ≤ i → full th ≡ true
   unfolding full
   full-found i e h = rw (among-found 0 i e, le-ltb i 48 h)
@@ -44,7 +35,3 @@ module _ (th : Things) (room : length (th .ids) ≡ 48) where
   pub free-found : (i : ℕ) → i ≡ find (th .ids) 0 → i < 48 → full th ≡ false
   unfolding full
   free-found i e h = rw (among-found 0 i e, lt-ltb i 48 h)
-
-pub take-zero : (th : Things) (x : ℕ) → x ≡ 0 → true ≡ mayTake th x
-unfolding mayTake known
-take-zero th x e = rw e

@@ -1,6 +1,6 @@
 -- The seat that a plan holds for a parameter is its thing's: what the checks of the places leave, and what each create and destroy does.
 -- Assumes nothing.
-use Prim.Native.Nat.{ℕ, zero, suc, _+_, _≤_, _<_}
+use Prim.Native.Nat.{ℕ, zero, suc, _+_, _≤_, _<_, max}
 use native.Mathlib.Nat.{not-suc-le-zero, le-of-suc-le-suc, add-zero, zero-add, add-suc, suc-add}
 use native.Mathlib.Omega.{arith}
 use mathlib.Core.Path.{_≡_, refl, sym, _∙_}
@@ -8,7 +8,7 @@ use mathlib.Core.Logic.{_≢_}
 use mathlib.Core.Bool.{Bool, true, false, not}
 use mathlib.Core.Option.{Option, none, some}
 use mathlib.Core.List.{List, [], _∷_}
-use lib.Dec.{T, eqb}
+use lib.Dec.{T, eqb, ltb→lt}
 use lib.ListN.{length, getD, set, length-set, List·getD-append}
 use lib.Seq.{getD-set-same, getD-set-other, sets, sets-eq, length-sets}
 use borrow.Author.Tests.{eqb-false}
@@ -16,7 +16,7 @@ use Rattle.rights.specs.Numberings.{parameter, sameParameter}
 use Rattle.rights.specs.declared.ThingType.{ThingType}
 use Rattle.rights.specs.declared.Parameter.{Parameter}
 use Rattle.laws.specs.Check.{must, passes, isSome, any}
-use Rattle.laws.proofs.Bools.{is-false, from-true, not-both, eqb-not, and-right, first-pass, then-pass, must-pass}
+use Rattle.laws.proofs.Bools.{is-false, from-true, eqb-not, and-right, first-pass, then-pass, must-pass}
 use Rattle.model.specs.Scheme.{idAt, creates, isNew, noType}
 use Rattle.model.specs.Request.{Thing, at, ofType, isId, typeFault, placeFault, placesFault}
 use Rattle.model.specs.Seats.{seats, among, find, known, full, seat, thingAt, mayTake, putThing}
@@ -27,18 +27,28 @@ use Rattle.model.specs.declared.Things.{Things}
 use Rattle.model.proofs.Find.{find-lt, find-is, some-known}
 use Rattle.model.proofs.Form.{same-parameter}
 use Rattle.model.proofs.Held.{HeldThings}
+use Rattle.model.proofs.HeldLaws.{ids-below}
+use Rattle.model.proofs.SeatChange.{stored}
 use Rattle.plan.specs.Locate.{bare, seatOf, seatsFrom, noSpots, spotsOf}
 use Rattle.plan.specs.Plan.{seatAt}
 use Rattle.plan.proofs.Sits.{Sits, sits-among, sits-find, sits-look, sits-later, sits-put, sits-new}
+
+-- nobody is above the highest after a put either
+put-below : (th : Things) (p x : ℕ) (t : Thing) → p < length (th .ids) → ((i : ℕ) → getD (th .ids) i 0 ≤ th .highest) →
+    (i : ℕ) → getD (putThing p x t th .ids) i 0 ≤ putThing p x t th .highest
+unfolding putThing
+put-below th p x t l below i =
+    stored (λ v. v ≤ max (th .highest) x) (th .ids) p x i 0 l (λ e. omega arith) (λ n. omega (arith, below i))
 
 not-not : (b : Bool) → T (not (not b)) → T b
 not-not true t = tt
 not-not false t = t
 
 module _ (types : List ThingType) (ids : List ℕ) where
-  -- every parameter that no operation is still to create has its seat
+  -- every parameter that no operation is still to create has its seat, and nobody's id is above the highest
   pub record Seated (k : ℕ) (os : List Operation) (th : Things) (spots : List ℕ) : Type 0 where
     room : length types ≤ length spots
+    below : (i : ℕ) → getD (th .ids) i 0 ≤ th .highest
     sits : (q : Parameter) → q .0 < length types → isNew os q ≡ false → Sits k (th .ids) (idAt ids q) (seatAt spots q)
 
   module _ {k : ℕ} {os : List Operation} {th : Things} {spots : List ℕ} (seated : Seated k os th spots) where
@@ -54,9 +64,13 @@ module _ (types : List ThingType) (ids : List ℕ) where
       -- the created thing takes a free seat, where none of the others sits
       pub seated-create : o .code ≡ Create → k ≤ 0 → o .row .0 < length types → T (mayTake th x) → T (not (full th)) → (t : ThingType) {k′ : ℕ}
           → Seated k′ os (putThing (seat th 0) x (ofType t) th) (set spots (o .row .0) (seat th 0))
-      unfolding isNew any creates known mayTake full seat putThing seatAt
+      unfolding isNew any creates mayTake full seat putThing seatAt
       seated-create e first l may space t {k′} =
-          record { room = simp length-set (seated .room); sits = λ q lq n. go q lq n (sameParameter (o .row) q) refl }
+          record {
+            room = simp length-set (seated .room);
+            below = put-below th p x (ofType t) (find-lt (th .ids) 0 free) (seated .below);
+            sits = λ q lq n. go q lq n (sameParameter (o .row) q) refl;
+          }
         where
           p : ℕ
           p = find (th .ids) 0
@@ -65,7 +79,9 @@ module _ (types : List ThingType) (ids : List ℕ) where
           free = not-not (among (th .ids) 0) space
 
           absent : among (th .ids) x ≡ false
-          absent = is-false (among (th .ids) x) (λ t. not-both (known th x) (rw (eqb-not x 0 (nonzero (o .row) l)) t) may)
+          absent = is-false (among (th .ids) x) (λ t.
+              let is = find-is (th .ids) x t in
+              omega (arith, seated .below (find (th .ids) x), ltb→lt (th .highest) x may))
 
           go : (q : Parameter) → q .0 < length types → isNew os q ≡ false → (b : Bool) → sameParameter (o .row) q ≡ b
               → Sits k′ (set (th .ids) p x) (idAt ids q) (getD (set spots (o .row .0) p) (q .0) 0)
@@ -80,7 +96,7 @@ module _ (types : List ThingType) (ids : List ℕ) where
 
       module _ (old : (q : Parameter) → isNew (o ∷ os) q ≡ false) where
         pub seated-later : {k′ : ℕ} → k ≤ k′ → Seated k′ os th spots
-        seated-later h = record { room = seated .room; sits = λ q l n. sits-later (seated .sits q l (old q)) h }
+        seated-later h = record { room = seated .room; below = seated .below; sits = λ q l n. sits-later (seated .sits q l (old q)) h }
 
         module _ (l : o .row .0 < length types) where
           abbrev s : ℕ
@@ -102,6 +118,7 @@ module _ (types : List ThingType) (ids : List ℕ) where
           unfolding putThing
           seated-destroy late = record {
             room = seated .room;
+            below = put-below th s 0 (ofType noType) (row-sits .low) (seated .below);
             sits = λ q lq n. sits-put (seated .sits q lq (old q)) s 0 (row-sits .low) (λ z. nonzero q lq (sym z))
                 (λ h. absurd (omega arith)) (λ h. absurd (omega arith));
           }
@@ -166,7 +183,7 @@ module _ (s : Head) (th : Things) (held : HeldThings s th) (os : List Operation)
 
   pub seated : Seated types ids 0 os th spots
   unfolding known spotsOf
-  seated = record { room = simp length-sets few; sits = λ q h n. go q h (placed-at q h .old n) }
+  seated = record { room = simp length-sets few; below = ids-below s th held; sits = λ q h n. go q h (placed-at q h .old n) }
     where
       go : (q : Parameter) → q .0 < length types → T (known th (idAt ids q)) × (seatAt spots q ≡ find (th .ids) (idAt ids q))
           → Sits 0 (th .ids) (idAt ids q) (seatAt spots q)

@@ -43,15 +43,11 @@ fn id_in(ids: [u16; Things::LIMIT], i: usize) -> u16
     if i < Things::LIMIT { ids[i] } else { 0 }
 }
 
-// Whether an id may take a seat: 0, which is no thing's, always could.
+// Whether an id may take a seat.
 fn may_take(th: Things, x: u16) -> bool
     ensures { λ r. ⌜ r ≡ mayTake th x ⌝ }
 {
-    if x == 0 {
-        return true;
-    }
-    let ids = th.ids;
-    Things::LIMIT <= seat_of(ids, x)
+    th.highest < x
 }
 
 fn stop(answer: Verdict, th: Things) -> Planning

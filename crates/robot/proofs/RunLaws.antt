@@ -13,7 +13,7 @@ use types.Run.{OneOf}
 use lib.Dec.{T, leb}
 use lib.ListN.{length, getD}
 use borrow.Author.Tests.{le-leb, lt-leb}
-use Rattle.model.specs.Request.{Request, after, step, run}
+use Rattle.model.specs.Request.{run}
 use Rattle.model.specs.Answers.{replyWidth}
 use Rattle.model.specs.Seats.{Matrix, seats}
 use Rattle.laws.specs.Check.{passes}
@@ -21,7 +21,7 @@ use Rattle.model.specs.Accepted.{headFault, acceptedScheme, acceptedMatrix}
 use Rattle.model.specs.declared.Scheme.{Scheme}
 use Rattle.model.specs.declared.Things.{Things}
 use Rattle.laws.proofs.Bools.{is-true, and-right}
-use Rattle.model.proofs.Joined.{kept}
+use Rattle.model.proofs.Joined.{run-kept}
 use Rattle.records.specs.Writing.{placed, writeBytes}
 use Rattle.records.specs.declared.Reading.{Reading}
 use Rattle.records.specs.declared.Reading.the-variants as reading
@@ -47,7 +47,7 @@ use Rattle.laws.proofs.Differ.{constructors-differ}
 use Rattle.matrix_bytes.proofs.ReadMatrix.{by-head}
 use Rattle.request_list.specs.List.{Listed, readList}
 
--- ---- what was read is accepted, and stays so
+-- ---- what was read is accepted
 pub read-accepted : (bytes : List ℕ) (s : Scheme) → T (acceptedScheme s) → (things : Things) (cells new : List ℕ) (r : MatrixAnswer) (n : ℕ) →
     ((i : ℕ) → getD bytes i 0 < 256) → _≡_ {A = MatrixAnswer × List ℕ} (r, new) (readMatrixByHead bytes (s .head) things cells) →
     r .answer ≡ reading.Done n → T (acceptedMatrix (s .head) (record { things = r .things; cells = new }))
@@ -62,11 +62,6 @@ read-accepted bytes s ok things cells new r n small is e =
     and-right (acceptedScheme s) _ t
 
 module _ (s : Scheme) (ok : T (acceptedScheme s)) where
-  pub all-kept : (m : Matrix) (qs : List Request) → T (acceptedMatrix (s .head) m) → T (acceptedMatrix (s .head) (run seats s m qs))
-  unfolding run
-  all-kept m [] of = of
-  all-kept m (q ∷ qs) of = all-kept (after m (step seats s m q)) qs (kept s m q ok of)
-
   module _ (m : Matrix) (of : T (acceptedMatrix (s .head) m)) (l : Listed) where
     abbrev end : Matrix
     end = run seats s m (l .requests)
@@ -74,9 +69,9 @@ module _ (s : Scheme) (ok : T (acceptedScheme s)) where
     abbrev bytes : List ℕ
     bytes = bytesAfter s m l
 
-    pub always-fits : (room : ℕ) → 37206 ≤ room → length (bytesAfter s m l) ≤ room
+    pub always-fits : (room : ℕ) → 37208 ≤ room → length (bytesAfter s m l) ≤ room
     unfolding bytesAfter
-    always-fits room h = omega (arith, largest (s .head) end (all-kept m (l .requests) of))
+    always-fits room h = omega (arith, largest (s .head) end (run-kept s m (l .requests) ok of))
 
     -- where there is room, the matrix afterwards is written
     module _ (out : List ℕ) (room : length (bytesAfter s m l) ≤ length out) where
@@ -90,7 +85,7 @@ module _ (s : Scheme) (ok : T (acceptedScheme s)) where
           e ∙ rw (
             same,
             is-true (passes (headFault (s .head))) (head-passes s ok),
-            is-true (acceptedMatrix (s .head) end) (all-kept m (l .requests) of),
+            is-true (acceptedMatrix (s .head) end) (run-kept s m (l .requests) ok of),
             zero-add,
             le-leb _ _ room,
           ) in
@@ -178,7 +173,7 @@ module _ (s : Scheme) (ok : T (acceptedScheme s)) (m : Matrix) (of : T (accepted
   unfolding runQuietly
   quietly = is ∙ rw (is-true (acceptedScheme s) ok, is-true (acceptedMatrix (s .head) m) of)
 
-  pub trial-tells : (count : ℕ) → count ≡ countOf (r .answer) → (out : List ℕ) → 37206 ≤ length out → (w : Writing) (out′ : List ℕ) →
+  pub trial-tells : (count : ℕ) → count ≡ countOf (r .answer) → (out : List ℕ) → 37208 ≤ length out → (w : Writing) (out′ : List ℕ) →
       _≡_ {A = Writing × List ℕ} (w, out′) (writeMatrixByHead out (s .head) (record { things = r .things; cells = cells })) → (written : ℕ) → written ≡ nextOf w →
       _≡_ {A = Needed} (record { answers = count; bytes = written }) (neededBy s m (readList requests))
   unfolding neededBy

@@ -160,4 +160,4 @@ requestBytes out at command ids = wrote 3 (writeRequest out at command ids)
 
 -- ---- the library's version: it moves when a format or a function's meaning moves
 abbrev pub version : ℕ
-version = 4
+version = 5

@@ -1,19 +1,21 @@
-// The things of a matrix by seat: none, the seat of an id, a thing put at a seat; and cells copied.
+// The things of a matrix by seat: none, the seat of an id, a thing put at a seat, by which the highest id may rise; and cells copied.
 use model::Things;
 use rights::ThingType;
 ghost use mathlib.Core.Path.{_≡_};
 ghost use lib.ListN.{take};
+ghost use Prim.Native.Nat.{max};
 ghost use lib.Seq.{sets};
 ghost use Rattle.model.specs.Request.{ofType};
 ghost use Rattle.model.specs.Seats.{find, noThings, putThing};
 
-// Every seat is free.
+// Every seat is free, and there never was a thing.
 pub fn no_things() -> Things
     ensures { λ r. ⌜ r ≡ noThings ⌝ }
 {
     Things {
         ids: [0; Things::LIMIT],
         types: [ThingType(0); Things::LIMIT],
+        highest: 0,
     }
 }
 
@@ -43,11 +45,19 @@ pub fn seat_of(ids: [u16; Things::LIMIT], x: u16) -> usize
     seat_in(ids, Things::LIMIT, x)
 }
 
-// At a seat sits a thing of a type as it is created; past the last seat nothing changes.
+fn larger(a: u16, b: u16) -> u16
+    ensures { λ r. ⌜ r ≡ max a b ⌝ }
+{
+    if a < b { b } else { a }
+}
+
+// At a seat sits a thing of a type as it is created, and the highest id is at least its own; past the last seat nobody sits, and no more than the highest
+// may change.
 pub fn put_thing(th: Things, i: usize, x: u16, t: ThingType) -> Things
     ensures { λ r. ⌜ r ≡ putThing i x (ofType t) th ⌝ }
 {
     let mut next = th;
+    next.highest = larger(th.highest, x);
     if i < Things::LIMIT {
         next.ids[i] = x;
         next.types[i] = t;

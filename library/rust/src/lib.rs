@@ -15,8 +15,11 @@ use foreign::Report;
 
 /// Room for the longest of each.
 pub const SCHEME_BYTES: usize = 6633;
-pub const MATRIX_BYTES: usize = 37206;
+pub const MATRIX_BYTES: usize = 37208;
 pub const REQUEST_BYTES: usize = 22;
+
+/// Where in a matrix's bytes the highest id stands that it ever had.
+const HIGHEST_AT: usize = 6;
 
 /// A list that was carried out.
 #[derive(Clone, Copy, Debug, PartialEq, Eq)]
@@ -37,7 +40,7 @@ impl Run {
 }
 
 /// The version of the interface that this wrapper was written for.
-pub const VERSION: u32 = 4;
+pub const VERSION: u32 = 5;
 
 /// The version that the linked archive has: another one than `VERSION` means that the two don't belong together.
 pub fn version() -> u32 {
@@ -56,6 +59,13 @@ pub fn check_matrix(scheme: &[u8], matrix: &[u8]) -> Result<usize, Refusal> {
     let mut report = Report::new();
     let number = foreign::check_matrix(scheme, matrix, &mut report);
     report.result(number).map(|()| report.position())
+}
+
+/// The highest id that a matrix ever had, of bytes that `check_matrix` accepts or that a run wrote. Ids up to it are never
+/// created again, so a new key gets one above it.
+pub fn highest_id(matrix: &[u8]) -> Option<u16> {
+    let field = matrix.get(HIGHEST_AT..)?.first_chunk()?;
+    Some(u16::from_le_bytes(*field))
 }
 
 /// Carries out a list of requests: an answer each, and the bytes of the matrix afterwards. On an error both buffers are as

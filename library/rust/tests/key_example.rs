@@ -1,8 +1,8 @@
 //! The outline's key example through the wrapper: each function once with success and once refused.
 
 use slushferret::{
-    check_matrix, check_scheme, convert_matrix, convert_scheme, run, version, write_request,
-    Answer, Place, Refusal, ANSWER_BYTES, VERSION,
+    check_matrix, check_scheme, convert_matrix, convert_scheme, highest_id, run, version,
+    write_request, Answer, Place, Refusal, ANSWER_BYTES, VERSION,
 };
 
 const SCHEME: [u8; 47] = [
@@ -10,10 +10,10 @@ const SCHEME: [u8; 47] = [
     1, 2, 2, 1, 1, 0, 1, 0, 2, 0, 0, 1, 1, 3, 0, 1,
 ];
 
-/// Things 5, 9, 12; cells [5, 9] = 1 and [9, 12] = 2.
-const MATRIX: [u8; 59] = [
-    2, 0, 3, 0, 4, 3, 3, 0, 4, 0, 5, 0, 0, 3, 0, 4, 0, 9, 0, 1, 3, 0, 4, 0, 12, 0, 2, 12, 0, 5, 0,
-    5, 0, 9, 0, 1, 0, 0, 0, 0, 0, 0, 0, 12, 0, 5, 0, 9, 0, 12, 0, 2, 0, 0, 0, 0, 0, 0, 0,
+/// Things 5, 9, 12, and never a higher id; cells [5, 9] = 1 and [9, 12] = 2.
+const MATRIX: [u8; 61] = [
+    4, 0, 7, 0, 4, 3, 12, 0, 3, 0, 4, 0, 5, 0, 0, 3, 0, 4, 0, 9, 0, 1, 3, 0, 4, 0, 12, 0, 2, 12, 0,
+    5, 0, 5, 0, 9, 0, 1, 0, 0, 0, 0, 0, 0, 0, 12, 0, 5, 0, 9, 0, 12, 0, 2, 0, 0, 0, 0, 0, 0, 0,
 ];
 
 const RETIRE: u8 = 0;
@@ -35,28 +35,28 @@ fn requests() -> [u8; 30] {
 #[test]
 fn checks() {
     assert_eq!(check_scheme(&SCHEME), Ok(47));
-    assert_eq!(check_matrix(&SCHEME, &MATRIX), Ok(59));
+    assert_eq!(check_matrix(&SCHEME, &MATRIX), Ok(61));
     assert_eq!(check_scheme(&[]), Err(refusal(1, Place::Scheme, 0)));
     let cut = check_scheme(&SCHEME[..46]);
     assert_eq!(cut, Err(refusal(1, Place::Scheme, 26)));
-    let cut = check_matrix(&SCHEME, &MATRIX[..58]);
-    assert_eq!(cut, Err(refusal(1, Place::Matrix, 43)));
+    let cut = check_matrix(&SCHEME, &MATRIX[..60]);
+    assert_eq!(cut, Err(refusal(1, Place::Matrix, 45)));
 }
 
 #[test]
 fn office_and_robot_answer_alike() {
-    let (mut scheme, mut matrix) = ([0; 55], [0; 123]);
+    let (mut scheme, mut matrix) = ([0; 55], [0; 125]);
     assert_eq!(convert_scheme(&SCHEME, &mut scheme), Ok(55));
-    assert_eq!(convert_matrix(&SCHEME, &MATRIX, &mut matrix), Ok(123));
+    assert_eq!(convert_matrix(&SCHEME, &MATRIX, &mut matrix), Ok(125));
 
-    let (mut answers, mut after) = ([99; 3 * ANSWER_BYTES], [0; 123]);
+    let (mut answers, mut after) = ([99; 3 * ANSWER_BYTES], [0; 125]);
     let office = run(&SCHEME, &MATRIX, &requests(), &mut answers, &mut after).unwrap();
-    assert_eq!((office.answers, office.written), (3, 75));
+    assert_eq!((office.answers, office.written), (3, 77));
     assert_eq!(answers, [0, 255, 3, 0, 255, 2, 14, 1, 2]);
 
     let mut answers = [99; 3 * ANSWER_BYTES];
     let robot = run(&scheme, &matrix, &requests(), &mut answers, &mut after).unwrap();
-    assert_eq!((robot.answers, robot.written), (3, 123));
+    assert_eq!((robot.answers, robot.written), (3, 125));
     // but for the steps: as many tests, and twice the operations
     assert_eq!(answers, [0, 255, 4, 0, 255, 3, 14, 1, 2]);
 }
@@ -64,7 +64,7 @@ fn office_and_robot_answer_alike() {
 #[test]
 fn answers_are_read_with_test_and_steps() {
     // one answer's room more than there are requests, and two odd bytes
-    let (mut answers, mut after) = ([99; 4 * ANSWER_BYTES + 2], [0; 123]);
+    let (mut answers, mut after) = ([99; 4 * ANSWER_BYTES + 2], [0; 125]);
     let ran = run(&SCHEME, &MATRIX, &requests(), &mut answers, &mut after).unwrap();
     assert_eq!(answers[3 * ANSWER_BYTES..], [99; ANSWER_BYTES + 2]);
     let stored = [
@@ -85,7 +85,7 @@ fn answer(number: u8, test: Option<u8>, steps: u8) -> Answer {
 
 #[test]
 fn a_list_may_end_with_a_bad_record() {
-    let (mut answers, mut after) = ([99; 3 * ANSWER_BYTES], [0; 123]);
+    let (mut answers, mut after) = ([99; 3 * ANSWER_BYTES], [0; 125]);
     let list = &requests()[..25];
     let ran = run(&SCHEME, &MATRIX, list, &mut answers, &mut after).unwrap();
     assert_eq!(
@@ -97,14 +97,14 @@ fn a_list_may_end_with_a_bad_record() {
 
 #[test]
 fn refused_calls_store_nothing() {
-    let (mut answers, mut after) = ([99; 3 * ANSWER_BYTES - 1], [99; 123]);
+    let (mut answers, mut after) = ([99; 3 * ANSWER_BYTES - 1], [99; 125]);
     let ran = run(&SCHEME, &MATRIX, &requests(), &mut answers, &mut after);
     assert_eq!(ran, Err(refusal(9, Place::Answers, 0)));
-    assert_eq!((answers, after), ([99; 3 * ANSWER_BYTES - 1], [99; 123]));
-    let (mut answers, mut short) = ([99; 3 * ANSWER_BYTES], [99; 74]);
+    assert_eq!((answers, after), ([99; 3 * ANSWER_BYTES - 1], [99; 125]));
+    let (mut answers, mut short) = ([99; 3 * ANSWER_BYTES], [99; 76]);
     let ran = run(&SCHEME, &MATRIX, &requests(), &mut answers, &mut short);
     assert_eq!(ran, Err(refusal(9, Place::Output, 0)));
-    assert_eq!((answers, short), ([99; 3 * ANSWER_BYTES], [99; 74]));
+    assert_eq!((answers, short), ([99; 3 * ANSWER_BYTES], [99; 76]));
 
     let mut short = [99; 54];
     let converted = convert_scheme(&SCHEME, &mut short);
@@ -116,6 +116,31 @@ fn refused_calls_store_nothing() {
     let written = write_request(LOAD, &[9, 12], &mut short, usize::MAX);
     assert_eq!(written, Err(refusal(9, Place::Output, 0)));
     assert_eq!(short, [99; 54]);
+}
+
+/// One right, two types, of which managers are subjects. Command 0 creates a key for a manager, command 1 destroys it.
+const KEYS_SCHEME: [u8; 43] = [
+    5, 0, 1, 0, 1, 2, 1, 0, 2, 13, 0, 2, 0, 2, 0, 1, 0, 2, 3, 0, 1, 0, 1, 0, 0, 1, 13, 0, 2, 0, 2,
+    0, 1, 1, 1, 0, 0, 1, 1, 4, 0, 1, 0,
+];
+
+/// A manager, 5, and never a higher id.
+const KEYS: [u8; 15] = [4, 0, 7, 0, 1, 1, 5, 0, 3, 0, 4, 0, 5, 0, 0];
+
+#[test]
+fn a_key_number_is_never_used_again() {
+    let (mut list, mut at) = ([0; 40], 0);
+    for (command, key) in [(0, 31), (1, 31), (0, 31), (0, 32)] {
+        at = write_request(command, &[5, key], &mut list, at).unwrap();
+    }
+    let (mut answers, mut after) = ([99; 4 * ANSWER_BYTES], [0; 38]);
+    let ran = run(&KEYS_SCHEME, &KEYS, &list, &mut answers, &mut after).unwrap();
+    let numbers = ran.stored(&answers).map(|answer| answer.number);
+    assert!(numbers.eq([0, 0, 15, 0]));
+    assert_eq!((at, ran.written), (40, 38));
+    assert_eq!(highest_id(&KEYS), Some(5));
+    assert_eq!(highest_id(&after), Some(32));
+    assert_eq!(highest_id(&KEYS[..7]), None);
 }
 
 #[test]

@@ -114,7 +114,7 @@ pub fn full_list() -> Load {
     Load::new(scheme, matrix, 1, &list)
 }
 
-/// At 47 things a 48th is created and destroyed in turn.
+/// At 47 things a 48th is created and destroyed in turn, each with the next id, since none is used again.
 pub fn turning_list() -> Load {
     let command = |operation| Command {
         parameters: vec![0],
@@ -131,8 +131,10 @@ pub fn turning_list() -> Load {
         ],
     };
     let matrix = full_matrix(&scheme, 47, 0);
-    let turn = [(0, vec![60_000]), (1, vec![60_000])];
-    Load::new(scheme, matrix, 3_500, &turn)
+    let first = matrix.highest() + 1;
+    let turns = (first..first + 3_500).flat_map(|id| [(0, vec![id]), (1, vec![id])]);
+    let turns: Vec<(u8, Vec<u16>)> = turns.collect();
+    Load::new(scheme, matrix, 1, &turns)
 }
 
 /// No scheme and no matrix has more bytes.

@@ -6,6 +6,7 @@ use std::fmt;
 use independent::answer::{Answer, MOST_STEPS};
 use independent::refusal::{Fault, Found};
 use independent::scheme::MOST_TESTS;
+use independent::statistics::{Highest, Met};
 
 use crate::list::Carried;
 use crate::told::{Call, Told};
@@ -26,6 +27,8 @@ pub struct Counts {
     /// All requests, by their steps.
     steps: BTreeMap<u8, u64>,
     faults: BTreeMap<Fault, u64>,
+    /// What the highest id decided.
+    pub highest: Highest,
 }
 
 impl Counts {
@@ -86,6 +89,10 @@ impl fmt::Display for Counts {
             let count = self.faults.get(fault).unwrap_or(&0);
             let number = fault.number();
             writeln!(f, "{count} readings met fault {number}: {}", fault.words())?;
+        }
+        for &met in Met::ALL {
+            let count = self.highest.count(met);
+            writeln!(f, "{count} times by the highest id, {}", met.words())?;
         }
         Ok(())
     }

@@ -94,6 +94,9 @@ fn read(case: &Case, counts: &mut Counts) -> Content {
     };
     let matrix = find_matrix(&case.matrix, &scheme);
     counts.reading(&matrix);
+    if let Err(found) = matrix {
+        counts.highest.refused_matrix(found, &case.matrix, &scheme);
+    }
     Content {
         scheme: Ok(scheme),
         matrix: matrix.map_err(|found| Refused::found(MATRIX, found)),

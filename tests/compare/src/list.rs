@@ -6,6 +6,7 @@ use independent::matrix::{write_matrix, Matrix};
 use independent::refusal::Found;
 use independent::request::find_request;
 use independent::scheme::Scheme;
+use independent::statistics::Highest;
 
 /// So many requests of a list the driver also carries out one by one.
 pub const ONE_BY_ONE: usize = 60;
@@ -24,7 +25,8 @@ pub struct Carried {
     pub ending_alone: Option<Found>,
 }
 
-pub fn carry(scheme: &Scheme, matrix: &Matrix, list: &[u8]) -> Carried {
+pub fn carry(scheme: &Scheme, matrix: &Matrix, list: &[u8], highest: &mut Highest) -> Carried {
+    highest.matrix(matrix);
     let mut matrix = matrix.clone();
     let mut carried = Carried {
         answers: Vec::new(),
@@ -38,7 +40,7 @@ pub fn carry(scheme: &Scheme, matrix: &Matrix, list: &[u8]) -> Carried {
     loop {
         match find_request(list, at) {
             Ok(Some((request, next))) => {
-                let answer = carry_out(scheme, &mut matrix, request.command as usize, &request.ids);
+                let answer = counted(scheme, &mut matrix, request.command, &request.ids, highest);
                 carried.answers.push(answer);
                 if carried.after_each.len() < ONE_BY_ONE {
                     carried.after_each.push(write_matrix(&matrix, scheme));
@@ -56,6 +58,22 @@ pub fn carry(scheme: &Scheme, matrix: &Matrix, list: &[u8]) -> Carried {
     }
     carried.bytes = write_matrix(&matrix, scheme);
     carried
+}
+
+/// Carries out a request, and counts what the highest id decided in it.
+pub fn counted(
+    scheme: &Scheme,
+    matrix: &mut Matrix,
+    command: u8,
+    ids: &[u16],
+    highest: &mut Highest,
+) -> Answer {
+    let before = matrix.highest();
+    let answer = carry_out(scheme, matrix, command.into(), ids);
+    if let Some(command) = scheme.commands.get(usize::from(command)) {
+        highest.request(command, ids, answer, before, matrix);
+    }
+    answer
 }
 
 /// The bytes that the record at a position says are its own, as far as they are there.

@@ -4,10 +4,11 @@ use crate::refusal::{must, Fault, Found};
 
 pub const SCHEME_HEAD: u16 = 1;
 pub const COMMAND: u16 = 2;
-pub const MATRIX_HEAD: u16 = 3;
 pub const THING: u16 = 4;
 pub const CELL: u16 = 5;
 pub const REQUEST: u16 = 6;
+/// Kind 3 was a head without the highest id; no reading takes it any more.
+pub const MATRIX_HEAD: u16 = 7;
 
 /// A record whose front is checked and whose body is being read field by field.
 pub struct Record<'a> {

@@ -103,7 +103,8 @@ fn operate(
         }
         Operation::Create { parameter } => {
             let id = id_of(parameter);
-            if after.type_of(id).is_some() {
+            // Also of an id that no thing has: one that ever existed is never used again.
+            if id <= after.highest() {
                 return Err(15);
             }
             if after.things().len() == MOST_THINGS {

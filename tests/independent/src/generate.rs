@@ -2,6 +2,7 @@
 
 pub mod damage;
 pub mod fields;
+mod ids;
 pub mod matrices;
 mod places;
 pub mod random;
@@ -27,7 +28,7 @@ pub struct Case {
     pub room: usize,
 }
 
-/// In one of so many cases the requests of `stops` come first, and in another those of `steps`.
+/// In one of so many cases the requests of `stops` come first, and in two others those of `steps`.
 const TURNS: usize = 8;
 
 /// The case of a seed and a number; it doesn't depend on the cases before it.
@@ -39,7 +40,7 @@ pub fn case(seed: u64, number: u64) -> Case {
     let apart = &mut Random::new(!seed, number);
     let first = match apart.below(TURNS) {
         0 => stops::stops(apart, &mut scheme, &matrix),
-        1 => steps::steps(apart, &mut scheme, &mut matrix),
+        1 | 2 => steps::steps(apart, &mut scheme, &mut matrix),
         _ => Vec::new(),
     };
     let mut case = Case {

@@ -22,7 +22,8 @@ const EXPECTED: &str = "expected one of
   independent convert SCHEME MATRIX OUT-SCHEME OUT-MATRIX
                                            `ok SCHEME-BYTES MATRIX-BYTES`, `bad POSITION NUMBER` or `refused NUMBER`
   independent generate SEED COUNT FOLDER   a numbered folder for each case
-  independent statistics SEED COUNT        how often each refusal comes up, each test that stops a request, and each number of steps
+  independent statistics SEED COUNT        how often each refusal comes up, each test that stops a request, each number of steps, and what the
+                                           highest id decides
   independent edges stdin                  the cases of the project's program `edges`, as bytes
   independent edges stdout                 what that program must print
 where SEED and COUNT are numbers from 0 to 18446744073709551615";

@@ -1,4 +1,4 @@
-//! The matrix as the outline speaks of it: things and existing cells by ids, with its reader and writer.
+//! The matrix as the outline speaks of it: things and existing cells by ids, and the highest id it ever had; with its reader and writer.
 
 use std::collections::BTreeMap;
 
@@ -14,6 +14,8 @@ pub struct Matrix {
     things: BTreeMap<u16, u8>,
     /// The rights of every cell that exists, empty ones too, by row id and column id.
     cells: BTreeMap<(u16, u16), u64>,
+    /// The highest id that a thing ever had; no thing's id is above it.
+    highest: u16,
 }
 
 impl Matrix {
@@ -27,6 +29,15 @@ impl Matrix {
 
     pub fn cells(&self) -> &BTreeMap<(u16, u16), u64> {
         &self.cells
+    }
+
+    pub fn highest(&self) -> u16 {
+        self.highest
+    }
+
+    /// As if a thing with this id had been there.
+    pub fn raise_highest(&mut self, id: u16) {
+        self.highest = self.highest.max(id);
     }
 
     pub fn type_of(&self, id: u16) -> Option<u8> {
@@ -43,10 +54,11 @@ impl Matrix {
         *self.cells.get_mut(&(row, column)).expect("the cell exists") = rights;
     }
 
-    /// Adds a thing with empty cells: row and column for a subject type, column otherwise.
+    /// Adds a thing with empty cells: row and column for a subject type, column otherwise. Its id is the highest, if none was higher.
     pub fn create(&mut self, scheme: &Scheme, id: u16, kind: u8) {
         let old = self.things.insert(id, kind);
         assert!(old.is_none(), "the id is free");
+        self.raise_highest(id);
         for (&other, &other_kind) in &self.things {
             if scheme.is_subject_type(other_kind) {
                 self.cells.insert((other, id), 0);
@@ -57,7 +69,7 @@ impl Matrix {
         }
     }
 
-    /// Takes a thing and all its cells away.
+    /// Takes a thing and all its cells away; the highest id stays.
     pub fn destroy(&mut self, id: u16) {
         self.things.remove(&id).expect("the thing exists");
         self.cells
@@ -83,14 +95,15 @@ pub fn read_matrix(input: &[u8], scheme: &Scheme) -> Result<Matrix, Refusal> {
 pub fn find_matrix(input: &[u8], scheme: &Scheme) -> Result<Matrix, Found> {
     let head = Record::read(input, 0, MATRIX_HEAD)?;
     let mut at = head.next;
-    let things = read_head(head, scheme)?;
+    let (things, highest) = read_head(head, scheme)?;
 
     let mut matrix = Matrix::new();
+    matrix.raise_highest(highest);
     let mut last_id = 0;
     for _ in 0..things {
         let thing = Record::read(input, at, THING)?;
         at = thing.next;
-        let (id, kind) = read_thing(thing, scheme, last_id)?;
+        let (id, kind) = read_thing(thing, scheme, last_id, highest)?;
         matrix.create(scheme, id, kind);
         last_id = id;
     }
@@ -106,8 +119,8 @@ pub fn find_matrix(input: &[u8], scheme: &Scheme) -> Result<Matrix, Found> {
     Ok(matrix)
 }
 
-/// How many things a head states.
-pub fn read_head(mut head: Record, scheme: &Scheme) -> Result<u8, Found> {
+/// How many things a head states, and the highest id.
+pub fn read_head(mut head: Record, scheme: &Scheme) -> Result<(u8, u16), Found> {
     let rights = head.one()?;
     head.must(
         (1..=MOST_RIGHTS).contains(&rights),
@@ -116,15 +129,23 @@ pub fn read_head(mut head: Record, scheme: &Scheme) -> Result<u8, Found> {
     head.must(rights == scheme.rights, Fault::MatrixRightsOther)?;
     let things = head.one()?;
     head.must(things as usize <= MOST_THINGS, Fault::ThingsCount)?;
+    // Any number may be the highest: whether it fits is found at the things.
+    let highest = head.two()?;
     head.end()?;
-    Ok(things)
+    Ok((things, highest))
 }
 
-/// A thing's id and type, behind a thing with this id, 0 for none.
-pub fn read_thing(mut thing: Record, scheme: &Scheme, last_id: u16) -> Result<(u16, u8), Found> {
+/// A thing's id and type, behind a thing with this id, 0 for none, where the head stated this highest id.
+pub fn read_thing(
+    mut thing: Record,
+    scheme: &Scheme,
+    last_id: u16,
+    highest: u16,
+) -> Result<(u16, u8), Found> {
     let id = thing.two()?;
     thing.must(id != 0, Fault::ThingIdZero)?;
     thing.must(id > last_id, Fault::ThingOrder)?;
+    thing.must(id <= highest, Fault::ThingAboveHighest)?;
     let kind = thing.one()?;
     thing.must(kind < scheme.types, Fault::ThingType)?;
     thing.end()?;
@@ -159,11 +180,9 @@ pub fn all_rights(n: u8) -> u64 {
 
 pub fn write_matrix(matrix: &Matrix, scheme: &Scheme) -> Vec<u8> {
     let mut out = Vec::new();
-    put_record(
-        &mut out,
-        MATRIX_HEAD,
-        &[scheme.rights, matrix.things.len() as u8],
-    );
+    let [low, high] = matrix.highest.to_le_bytes();
+    let head = [scheme.rights, matrix.things.len() as u8, low, high];
+    put_record(&mut out, MATRIX_HEAD, &head);
     for (id, kind) in &matrix.things {
         let [low, high] = id.to_le_bytes();
         put_record(&mut out, THING, &[low, high, *kind]);

@@ -125,9 +125,9 @@ pub fn list_scheme(scheme: &Scheme) -> String {
     text
 }
 
-/// A matrix for people: its things, then its nonempty cells.
+/// A matrix for people: the highest id it ever had, its things, then its nonempty cells.
 pub fn list_matrix(matrix: &Matrix) -> String {
-    let mut text = String::new();
+    let mut text = format!("highest id {}\n", matrix.highest());
     for (id, kind) in matrix.things() {
         writeln!(text, "thing {id} type {kind}").unwrap();
     }

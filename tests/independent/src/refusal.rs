@@ -94,6 +94,7 @@ faults! {
     6 DestroyColumnNotZero "a destroy's column isn't 0",
     6 MatrixRightsOther "a matrix head's n isn't the scheme's",
     6 ThingIdZero "a thing's id is 0",
+    6 ThingAboveHighest "a thing's id is above the head's highest",
     6 CellRowNoSubject "a cell's row is no subject",
     6 CellNoRights "a cell has no rights",
     7 ThingOrder "a thing's id isn't above the one before",

@@ -1,8 +1,10 @@
 //! Counts how often each refusal comes up over generated cases, and what ends requests, so that it shows what a comparison covers.
 
 mod answers;
+mod highest;
 
 pub use answers::{Answers, Stands};
+pub use highest::{Highest, Met};
 
 use std::collections::BTreeMap;
 use std::fmt;
@@ -42,6 +44,7 @@ pub struct Statistics {
     pub numbers: BTreeMap<(u8, Asked), u64>,
     pub faults: BTreeMap<Fault, u64>,
     pub answers: Answers,
+    pub highest: Highest,
 }
 
 impl Statistics {
@@ -65,10 +68,14 @@ impl Statistics {
         let Some((scheme, _)) = self.reading(Asked::Scheme, find_scheme(&case.scheme)) else {
             return;
         };
-        let Some(mut matrix) = self.reading(Asked::Matrix, find_matrix(&case.matrix, &scheme))
-        else {
+        let found = find_matrix(&case.matrix, &scheme);
+        if let Err(found) = found {
+            self.highest.refused_matrix(found, &case.matrix, &scheme);
+        }
+        let Some(mut matrix) = self.reading(Asked::Matrix, found) else {
             return;
         };
+        self.highest.matrix(&matrix);
         self.convert(&scheme, &matrix, case.room);
         self.write(&scheme, &matrix, case);
 
@@ -89,9 +96,14 @@ impl Statistics {
 
     fn request(&mut self, scheme: &Scheme, matrix: &mut Matrix, command: u8, ids: &[u16]) {
         let command = usize::from(command);
+        let before = matrix.highest();
         let answer = carry_out(scheme, matrix, command, ids);
         self.note(Asked::Request, answer.number);
-        self.answers.add(answer, scheme.commands.get(command));
+        let command = scheme.commands.get(command);
+        self.answers.add(answer, command);
+        if let Some(command) = command {
+            self.highest.request(command, ids, answer, before, matrix);
+        }
     }
 
     /// Scheme and matrix by a call each, then 9 for a buffer that is too short.
@@ -158,6 +170,7 @@ impl fmt::Display for Statistics {
             }
         }
         writeln!(out, "\n{}", self.answers)?;
+        writeln!(out, "{}", self.highest)?;
         writeln!(out, "number      count fault")?;
         for fault in Fault::ALL {
             writeln!(

@@ -1,6 +1,8 @@
-//! Over generated cases: the two engines agree, reading gives back what was written, and conversion keeps every answer.
+//! Over generated cases: the two engines agree, no id is used again, reading gives back what was written, and conversion keeps every answer.
 
 mod common;
+
+use std::collections::BTreeSet;
 
 use common::of_robot;
 use independent::convert::{convert_matrix, convert_scheme};
@@ -65,6 +67,34 @@ fn the_two_engines_agree() {
     assert!(
         carried > 10_000 && accepted > 3_000,
         "{carried} requests, {accepted} accepted"
+    );
+}
+
+/// Whatever a list does: what is new has an id that no thing ever had, and the highest id falls below none of those.
+#[test]
+fn an_id_is_never_used_again() {
+    let (mut created, mut again) = (0, 0);
+    for number in 0..2_000 {
+        let (scheme, mut matrix, list) = valid(number);
+        let mut ever: BTreeSet<u16> = matrix.things().keys().copied().collect();
+        for (command, ids) in list {
+            let before = matrix.clone();
+            let answer = carry_out(&scheme, &mut matrix, command as usize, &ids);
+            for &id in matrix.things().keys() {
+                if before.type_of(id).is_none() {
+                    assert!(id > before.highest() && ever.insert(id), "case {number}");
+                    created += 1;
+                }
+            }
+            assert!(matrix.highest() >= before.highest(), "case {number}");
+            assert!(ever.last() <= Some(&matrix.highest()), "case {number}");
+            let is_gone = |id| ever.contains(id) && matrix.type_of(*id).is_none();
+            again += usize::from(answer.number == 15 && ids.iter().any(is_gone));
+        }
+    }
+    assert!(
+        created > 1_000 && again > 100,
+        "{created} created, {again} refused that were gone"
     );
 }
 

@@ -1,11 +1,12 @@
-//! The generator reaches every refusal number, each fault by name, each test's place and each number of steps; a seed gives the same cases always.
+//! The generator reaches every refusal number, each fault by name, each test's place, each number of steps and all that the highest id decides; a seed
+//! gives the same cases always.
 
 use independent::answer::MOST_STEPS;
 use independent::generate::{case, random::Random, schemes};
 use independent::print::MOST_INPUT;
 use independent::refusal::Fault;
 use independent::scheme::{Operation, Scheme, MOST_TESTS};
-use independent::statistics::{Asked, Stands, Statistics};
+use independent::statistics::{Asked, Met, Stands, Statistics};
 
 const SEED: u64 = 1;
 const COUNT: u64 = 10_000;
@@ -35,6 +36,10 @@ fn every_number_and_every_fault_is_reached() {
         );
     }
     requests_end_everywhere(&statistics);
+    for &met in Met::ALL {
+        let count = statistics.highest.count(met);
+        assert!(count > 0, "{}\n{statistics}", met.words());
+    }
 }
 
 /// At each test, after each number of steps and no other, and at each operation that can be faulty, behind tests and behind none.

@@ -66,14 +66,75 @@ const ANSWERS: &[(&str, &str)] = &[
     ("tests-7-to-15-false", "14 7 8"),
     ("tests-7-to-15-false-robot", "14 7 8"),
     ("create-at-48", "16 255 1"),
+    ("create-next-at-48", "16 255 1"),
     ("create-used-at-48", "15 255 1"),
+    ("create-highest-at-48", "15 255 1"),
+    ("create-0-at-48", "12 255 0"),
     ("create-two-at-47", "16 255 2"),
+    ("create-same-twice-at-47", "15 255 2"),
+    ("create-falling-at-47", "15 255 2"),
+    ("create-highest-second-at-47", "15 255 2"),
+    ("create-highest-first-at-47", "15 255 1"),
+    ("create-99-now-at-48", "15 255 1"),
     ("create-and-destroy-at-48", "16 255 1"),
+    ("create-101-at-48-with-100", "16 255 1"),
+    ("create-100-at-48-with-100", "15 255 1"),
+    ("create-99-at-48-with-100", "15 255 1"),
+    ("create-48-at-48-with-100", "15 255 1"),
+    ("create-20-with-20", "15 255 1"),
+    ("create-10-with-20", "15 255 1"),
+    ("create-9-with-20", "15 255 1"),
+    ("create-0-with-20", "12 255 0"),
+    ("create-21-20-with-20", "15 255 2"),
+    ("create-20-21-with-20", "15 255 1"),
+    ("create-23-22-with-20", "15 255 2"),
+    ("create-21-with-20", "0 255 1"),
+    ("create-22-300-with-21", "0 255 2"),
+    ("create-turned-21-22-with-20", "15 255 2"),
+    ("create-turned-21-20-with-20", "15 255 1"),
+    ("create-turned-20-21-with-20", "15 255 2"),
+    ("create-turned-302-301-with-300", "0 255 2"),
+    ("create-256-with-302", "15 255 1"),
+    ("create-two-65535-with-65534", "15 255 2"),
+    ("create-65535-with-65534", "0 255 1"),
+    ("create-65535-again", "15 255 1"),
+    ("create-303-with-65535", "15 255 1"),
+    ("create-1-of-none", "15 255 1"),
+    ("create-two-last-of-none", "15 255 2"),
+    ("create-last-of-none", "0 255 1"),
+    ("create-1-with-0", "0 255 1"),
+    ("create-4-again", "15 255 1"),
+    ("create-200-then-4-again", "15 255 2"),
+    ("create-8-again", "15 255 1"),
+    ("create-200-below-300", "15 255 1"),
+    ("create-then-400", "0 255 2"),
+    ("create-401-again", "15 255 1"),
+    ("replace-401-and-2", "15 255 1"),
+    ("replace-402-and-2", "0 255 4"),
+    ("refused-61-500", "16 255 2"),
+    ("refused-500-60", "15 255 2"),
+    ("create-61-after-refusals", "0 255 1"),
+    ("refused-10-and-a-subject", "13 255 0"),
+    ("refused-10-and-2-2", "17 255 3"),
+    ("create-10-after-refusals", "0 255 1"),
+    ("create-and-destroy-13", "0 255 2"),
+    ("create-and-destroy-13-again", "15 255 1"),
+    ("create-14-destroy-2-4", "0 255 3"),
     ("create-entered-and-destroy", "0 255 4"),
     ("command-31-of-32", "0 255 48"),
     ("command-31-its-right-gone", "14 0 1"),
     ("27-no-scheme-request", "27 255 0"),
     ("no-room-matrix-asked-5", "27 255 0"),
+    ("no-room-highest-asked-5", "27 255 0"),
+    ("27-id-13-at-0-highest-12-request", "27 255 0"),
+    ("27-id-13-at-0-highest-13-request", "0 255 3"),
+    ("27-id-40-at-47-highest-39-request", "27 255 0"),
+    ("27-id-40-at-47-highest-40-request", "0 255 3"),
+    ("27-key-highest-11-request", "27 255 0"),
+    ("27-key-highest-12-request", "0 255 3"),
+    ("27-key-highest-65535-request", "0 255 3"),
+    ("27-no-things-highest-0-request", "12 255 0"),
+    ("27-no-things-highest-65535-request", "12 255 0"),
     ("steps-15-first-of-creates", "15 255 1"),
     ("steps-15-last-of-creates", "15 255 8"),
     ("steps-15-middle-before-enters-behind-tests", "15 255 20"),
@@ -117,6 +178,111 @@ const LISTS: &[(&str, &str, &[u8])] = &[
     ("steps-list", "0 10", &[
         0, 255, 48, 10, 255, 0, 15, 255, 17, 11, 255, 0, 16, 255, 1, 17, 255, 42, 17, 255, 2, 0, 255, 8, 12, 255, 0, 14, 0, 1,
     ]),
+    ("list-again", "0 10", &[
+        0, 255, 1, 0, 255, 2, 15, 255, 1, 0, 255, 1, 15, 255, 1, 0, 255, 2, 15, 255, 1, 0, 255, 2, 15, 255, 1, 0, 255, 4,
+    ]),
+    ("list-between", "0 6", &[
+        15, 255, 2, 15, 255, 2, 17, 255, 3, 0, 255, 1, 15, 255, 2, 0, 255, 2, 19, 20, 21, 22, 23, 24, 25, 26, 27, 28, 29, 30,
+    ]),
+    ("list-last", "0 7", &[
+        0, 255, 1, 15, 255, 2, 0, 255, 1, 15, 255, 1, 0, 255, 2, 15, 255, 1, 15, 255, 1, 22, 23, 24, 25, 26, 27, 28, 29, 30,
+    ]),
+    ("list-full", "0 9", &[
+        16, 255, 2, 0, 255, 1, 15, 255, 1, 16, 255, 1, 0, 255, 2, 15, 255, 2, 0, 255, 2, 15, 255, 1, 16, 255, 1, 28, 29, 30,
+    ]),
+];
+
+/// The same for readings of matrices, of their heads and of their things: the number, the position, and what was read.
+const READINGS: &[(&str, &str)] = &[
+    ("key-matrix", "0 0 61"),
+    ("matrix-kind-3", "2 0"),
+    ("image-of-before", "2 0"),
+    ("image-of-before-kind-7", "3 0"),
+    ("no-things-of-before", "2 0"),
+    ("no-things-of-before-kind-7", "3 0"),
+    ("matrix-head-length-2", "3 0"),
+    ("matrix-head-length-3", "3 0"),
+    ("matrix-head-length-5", "3 0"),
+    ("head-length-2-things-49", "4 0"),
+    ("highest-13", "0 0 61"),
+    ("highest-256", "0 0 61"),
+    ("highest-65535", "0 0 61"),
+    ("highest-11", "6 22"),
+    ("highest-9", "6 22"),
+    ("highest-8", "6 15"),
+    ("highest-4", "6 8"),
+    ("highest-0", "6 8"),
+    ("things-2-highest-9", "0 0 22"),
+    ("things-2-highest-8", "6 15"),
+    ("things-0-highest-0", "0 0 8"),
+    ("things-0-highest-65535", "0 0 8"),
+    ("id-65535", "0 0 29"),
+    ("id-65535-above", "6 22"),
+    ("id-268-highest-267", "6 22"),
+    ("id-same-as-highest", "7 15"),
+    ("id-same-above-highest", "6 8"),
+    ("id-above-type-3", "6 22"),
+    ("id-above-length-1", "3 22"),
+    ("id-above-length-2", "6 22"),
+    ("id-above-length-4", "6 22"),
+    ("part-thing-9-of-9-behind-8", "0 0 4 9 1 22"),
+    ("part-thing-9-of-8-behind-8", "6 15"),
+    ("part-thing-9-of-8-behind-9", "7 15"),
+    ("part-thing-9-of-0-behind-10", "7 15"),
+    ("part-thing-0-of-65535-behind-0", "6 15"),
+    ("part-thing-0-of-0-behind-10", "6 15"),
+    ("part-thing-9-of-8-behind-8-type-3", "6 15"),
+    ("part-thing-9-of-8-behind-8-of-1", "3 15"),
+    ("part-thing-9-of-8-behind-8-of-2", "6 15"),
+    ("part-thing-9-of-8-behind-8-of-4", "6 15"),
+    ("part-thing-9-of-9-behind-8-type-3", "5 15"),
+    ("part-thing-9-of-9-behind-8-type-3-of-4", "5 15"),
+    ("part-thing-9-of-9-behind-8-of-2", "3 15"),
+    ("part-thing-9-of-9-behind-8-of-4", "3 15"),
+    ("part-at-29-of-highest-0", "0 0 5 5 9 1 1 45"),
+    ("part-at-0-of-highest-0", "0 0 7 3 12 8"),
+    ("part-head-highest-255-255-things-0", "0 0 7 0 65535 8"),
+    ("part-head-highest-0-1-things-48", "0 0 7 48 256 8"),
+    ("part-head-highest-0-0-things-49", "4 0"),
+];
+
+/// What is planned: the number and the operation's place, which stand behind four words of what is located.
+const PLANS: &[(&str, u8, u8)] = &[
+    ("next", 0, 0),
+    ("at-highest", 15, 0),
+    ("at-20", 15, 0),
+    ("below-20-free", 15, 0),
+    ("below-20-used", 15, 0),
+    ("next-of-20", 0, 0),
+    ("next-of-20-again", 15, 0),
+    ("last-of-65534", 0, 0),
+    ("last-of-65535", 15, 0),
+    ("one-of-65535", 15, 0),
+    ("0-of-none", 15, 0),
+    ("two-rise", 0, 0),
+    ("two-same", 15, 1),
+    ("two-fall", 15, 1),
+    ("two-from-20", 15, 0),
+    ("turned-rise", 0, 0),
+    ("turned-fall", 15, 1),
+    ("turned-from-20", 15, 0),
+    ("turned-rise-at-47", 16, 1),
+    ("full-next", 16, 0),
+    ("full-at-highest", 15, 0),
+    ("full-next-of-60", 16, 0),
+    ("full-at-60", 15, 0),
+    ("full-below-60-free", 15, 0),
+    ("full-below-60-used", 15, 0),
+    ("47-two-rise", 16, 1),
+    ("47-two-same", 15, 1),
+    ("47-two-fall", 15, 1),
+    ("turn-again", 15, 0),
+    ("replace-next", 0, 0),
+    ("replace-two-gone", 17, 2),
+    ("stranger-used-above", 0, 0),
+    ("stranger-used-below", 15, 0),
+    ("stranger-full-used", 16, 0),
+    ("stranger-full-below", 15, 0),
 ];
 
 /// As the program tells what a buffer holds.
@@ -137,6 +303,84 @@ fn the_first_false_test_and_the_steps_are_told() {
     for (label, words, buffer) in LISTS {
         stands(format!("{label} {words} {} ", sum(buffer)));
     }
+}
+
+#[test]
+fn the_highest_id_is_looked_at_in_its_turn() {
+    let text = stdout();
+    for (label, words) in READINGS {
+        let start = format!("{label} {words} ");
+        let mut lines = text.lines().filter(|line| line.starts_with(&start));
+        // Behind what was read stands the matrix's sum alone.
+        let is_told = |line: &str| !line[start.len()..].contains(' ');
+        assert!(lines.any(is_told), "{start}");
+    }
+    for (label, number, place) in PLANS {
+        let start = format!("plan-highest-{label} ");
+        let line = text.lines().find(|line| line.starts_with(&start));
+        let words: Vec<&str> = line.expect(label).split(' ').collect();
+        assert_eq!(
+            words[5..7],
+            [number.to_string(), place.to_string()],
+            "{label}"
+        );
+    }
+}
+
+/// A matrix's sum as the program tells it: two numbers a seat, the highest id, two numbers a cell.
+#[test]
+fn the_highest_id_shows_in_the_sum() {
+    let key = |highest: u64| {
+        let mut numbers = vec![5, 0, 9, 1, 12, 2];
+        numbers.resize(2 * 48, 0);
+        numbers.push(highest);
+        let mut cells = [0; 2 * 2_400];
+        cells[2] = 1;
+        cells[2 * 50] = 2;
+        // Behind the matrix's own cells, where the spoiled tables have left it.
+        cells[2 * 2_304] = 5;
+        numbers.extend(cells);
+        let add = |sum: u64, number: &u64| (sum * 1_000_003 + number) % ((1 << 40) - 87);
+        numbers.iter().fold(1, add)
+    };
+    let text = stdout();
+    for (label, highest) in [
+        ("matrix-to-write", 12),
+        ("matrix-of-highest-13", 13),
+        ("matrix-of-highest-65535", 65_535),
+        ("put-12-again", 12),
+        ("put-12-over-0", 13),
+        ("put-0-at-3", 65_535),
+        ("set-highest-256", 256),
+    ] {
+        let line = format!("{label} {}", key(highest));
+        let ends = |found: &str| {
+            let words: Vec<&str> = found.split(' ').collect();
+            [words[0], words[words.len() - 1]].join(" ") == line
+        };
+        assert!(text.lines().any(ends), "{label}");
+    }
+}
+
+/// How the two new things of the highest id stand in the input: a task of its own, and two bytes in front of a record's bytes.
+#[test]
+fn the_highest_id_is_encoded() {
+    let input = stdin();
+    let stands = |bytes: Vec<u8>| {
+        assert!(input.windows(bytes.len()).any(|part| part == bytes));
+    };
+    let label = b"matrix-of-highest-3072";
+    let front = [17, label.len() as u8, 0, 0];
+    let cells = 2_304u16.to_le_bytes();
+    let (room, at) = ([0; 8], 3_072u64.to_le_bytes());
+    stands([&front[..], &cells, &room, &at, label].concat());
+
+    let label = b"part-thing-12-1-of-267";
+    let context = [1 << 4, 0, 5, 0, 0, 0, 3, 0, 0, 0, 0, 0, 0, 0, 11, 1];
+    let head = [4, 0, 7, 0, 4, 3, 12, 0];
+    let front = [92, label.len() as u8, 16 + 61, 0];
+    let at = 15u64.to_le_bytes();
+    stands([&front[..], &cells, &room, &at, label, &context, &head].concat());
 }
 
 /// Which numbers each public function can give, by the outline's table; a yes or no is 1 or 0, and what can't refuse gives 0. A method that tells an

@@ -44,6 +44,8 @@ fn the_matrix_has_six_cells() {
     assert_eq!(matrix.cell(5, 9), Some(1));
     assert_eq!(matrix.cell(9, 12), Some(2));
     assert_eq!(matrix.cell(12, 9), None);
+    assert_eq!(matrix.highest(), 12);
+    assert_eq!(bytes(KEY_MATRIX).len(), 61);
     assert_eq!(write_matrix(&matrix, &key_scheme()), bytes(KEY_MATRIX));
 }
 
@@ -88,7 +90,7 @@ fn converted() {
         };
         assert_eq!(rights, expected, "{place:?}");
     }
-    assert_eq!(start.cells().len(), 6);
+    assert_eq!((start.cells().len(), start.highest()), (6, 12));
 
     let mut gives = |command, ids: &[u16], answer| {
         assert_eq!(carries_out(&converted, &mut start, command, ids), answer);
@@ -149,9 +151,12 @@ fn things(scheme: &Scheme, count: usize) -> Matrix {
 #[test]
 fn creates_at_the_limit() {
     let one = scheme_of(&[1], &[Operation::Create { parameter: 0 }]);
+    // An id above the highest gives 16, any other 15: used, the highest itself, or one that no thing has.
     let mut full = things(&one, MOST_THINGS);
-    assert_eq!(carries_out(&one, &mut full, 0, &[100]), (16, 255, 1));
-    assert_eq!(carries_out(&one, &mut full, 0, &[7]), (15, 255, 1));
+    full.raise_highest(60);
+    for (id, number) in [(100, 16), (61, 16), (60, 15), (59, 15), (48, 15), (7, 15)] {
+        assert_eq!(carries_out(&one, &mut full, 0, &[id]), (number, 255, 1));
+    }
 
     let mut almost = things(&one, MOST_THINGS - 1);
     assert_eq!(
@@ -165,8 +170,10 @@ fn creates_at_the_limit() {
     let two = scheme_of(&[1, 2], &operations);
     assert_eq!(carries_out(&two, &mut almost, 0, &[100, 101]), (16, 255, 2));
     assert_eq!((almost.type_of(100), almost.type_of(101)), (None, None));
-    // The second id exists at that moment, so 15 comes before 16.
+    // New ids that don't rise: 15 comes before 16.
     assert_eq!(carries_out(&two, &mut almost, 0, &[100, 100]), (15, 255, 2));
+    assert_eq!(carries_out(&two, &mut almost, 0, &[101, 100]), (15, 255, 2));
+    assert_eq!(almost, things(&one, MOST_THINGS - 1));
 }
 
 #[test]

@@ -3,7 +3,8 @@
 mod common;
 
 use common::*;
-use independent::matrix::read_matrix;
+use independent::bytes::{Record, THING};
+use independent::matrix::{read_matrix, read_thing};
 use independent::request::{read_request, write_request, Next};
 use independent::scheme::{read_scheme, write_scheme, Command, Operation, Scheme, Test};
 use independent::Refusal;
@@ -170,48 +171,130 @@ fn matrix_gives(text: &str, number: u8, at: usize) {
 }
 
 #[test]
-fn matrix_heads_and_things() {
+fn matrix_heads() {
     matrix_gives("", 1, 0);
-    matrix_gives("00 00 03 00", 3, 0);
-    matrix_gives("01 00 03 00 00", 4, 0);
-    matrix_gives("01 00 03 00 41", 4, 0);
-    matrix_gives("02 00 03 00 03 31", 6, 0);
-    matrix_gives("02 00 03 00 04 31", 4, 0);
-    matrix_gives("03 00 03 00 04 00 00", 3, 0);
-    matrix_gives("02 00 03 00 04 00", 0, 0);
-    matrix_gives("02 00 03 00 04 00 00", 1, 6);
-    matrix_gives("02 00 03 00 04 01", 1, 6);
-    matrix_gives("02 00 03 00 04 01 / 0C 00 05 00", 2, 6);
-    matrix_gives("02 00 03 00 04 00 / 03 00 04 00 01 00 00", 2, 6);
-    matrix_gives("02 00 03 00 04 01 / 01 00 04 00 00", 3, 6);
-    matrix_gives("02 00 03 00 04 01 / 02 00 04 00 00 00", 6, 6);
-    matrix_gives(
-        "02 00 03 00 04 02 / 03 00 04 00 05 00 00 / 02 00 04 00 00 00",
-        6,
-        13,
-    );
-    matrix_gives(
-        "02 00 03 00 04 02 / 03 00 04 00 05 00 00 / 02 00 04 00 05 00",
-        7,
-        13,
-    );
-    matrix_gives(
-        "02 00 03 00 04 02 / 03 00 04 00 05 01 00 / 03 00 04 00 06 00 09",
-        7,
-        13,
-    );
-    matrix_gives("02 00 03 00 04 01 / 03 00 04 00 05 00 03", 5, 6);
-    matrix_gives("02 00 03 00 04 01 / 04 00 04 00 05 00 02 00", 3, 6);
-    matrix_gives("02 00 03 00 04 01 / 03 00 04 00 FF FF 02", 0, 0);
+    matrix_gives("00 00 07 00", 3, 0);
+    matrix_gives("01 00 07 00 00", 4, 0);
+    matrix_gives("01 00 07 00 41", 4, 0);
+    matrix_gives("01 00 07 00 03", 6, 0);
+    matrix_gives("01 00 07 00 04", 3, 0);
+    matrix_gives("02 00 07 00 03 31", 6, 0);
+    matrix_gives("02 00 07 00 04 31", 4, 0);
+    // The highest id is missing or cut, whether there are things or not; of its values none is a fault.
+    matrix_gives("02 00 07 00 04 00", 3, 0);
+    matrix_gives("03 00 07 00 04 00 00", 3, 0);
+    matrix_gives("03 00 07 00 04 31 00", 4, 0);
+    matrix_gives("05 00 07 00 04 00 00 00 00", 3, 0);
+    for highest in ["00 00", "01 00", "00 01", "FF FF"] {
+        matrix_gives(&format!("04 00 07 00 04 00 {highest}"), 0, 0);
+        matrix_gives(&format!("04 00 07 00 04 00 {highest} 00"), 1, 8);
+        matrix_gives(&format!("04 00 07 00 04 01 {highest}"), 1, 8);
+    }
+}
+
+/// The kind of before, with the body that it had and with that of now; before its body's end is looked at.
+#[test]
+fn matrix_heads_of_before() {
+    matrix_gives("02 00 03 00 04 00", 2, 0);
+    matrix_gives("04 00 03 00 04 00 00 00", 2, 0);
+    matrix_gives("02 00 03 00", 2, 0);
+    matrix_gives("FF FF 03 00", 2, 0);
+    matrix_gives("02 00 07 00", 1, 0);
+    matrix_gives("02 00 03", 1, 0);
+    let things = "03 00 04 00 05 00 00 / 03 00 04 00 09 00 01 / 03 00 04 00 0C 00 02";
+    matrix_gives(&format!("02 00 03 00 04 03 / {things}"), 2, 0);
+    matrix_gives(&format!("02 00 07 00 04 03 / {things}"), 3, 0);
+    // A head may stand nowhere else.
+    let head = "04 00 07 00 04 01 05 00";
+    matrix_gives(&format!("{head} / {head}"), 2, 8);
+    matrix_gives(&format!("{head} / 03 00 04 00 05 00 00 / {head}"), 2, 15);
+}
+
+#[test]
+fn things() {
+    let one = "04 00 07 00 04 01 FF FF";
+    matrix_gives(&format!("{one} / 0C 00 05 00"), 2, 8);
+    matrix_gives("04 00 07 00 04 00 FF FF / 03 00 04 00 01 00 00", 2, 8);
+    matrix_gives(&format!("{one} / 01 00 04 00 00"), 3, 8);
+    matrix_gives(&format!("{one} / 02 00 04 00 00 00"), 6, 8);
+    let two = "04 00 07 00 04 02 FF FF";
+    let second = |first: &str, second: &str, number: u8| {
+        matrix_gives(&format!("{two} / {first} / {second}"), number, 15);
+    };
+    second("03 00 04 00 05 00 00", "02 00 04 00 00 00", 6);
+    second("03 00 04 00 05 00 00", "02 00 04 00 05 00", 7);
+    second("03 00 04 00 05 01 00", "03 00 04 00 06 00 09", 7);
+    matrix_gives(&format!("{one} / 03 00 04 00 05 00 03"), 5, 8);
+    matrix_gives(&format!("{one} / 04 00 04 00 05 00 02 00"), 3, 8);
+    matrix_gives(&format!("{one} / 03 00 04 00 FF FF 02"), 0, 0);
+}
+
+/// An id above the head's highest is found behind one that isn't above the last, and before the type and the body's end.
+#[test]
+fn things_above_the_highest() {
+    let one = |highest: &str, thing: &str, number: u8| {
+        let head = format!("04 00 07 00 04 01 {highest}");
+        matrix_gives(&format!("{head} / {thing}"), number, 8);
+    };
+    one("05 00", "03 00 04 00 05 00 00", 0);
+    one("06 00", "03 00 04 00 05 00 00", 0);
+    one("04 00", "03 00 04 00 05 00 00", 6);
+    one("00 00", "03 00 04 00 01 00 00", 6);
+    one("05 01", "03 00 04 00 05 01 00", 0);
+    one("04 01", "03 00 04 00 05 01 00", 6);
+    one("FF 00", "03 00 04 00 00 01 00", 6);
+    one("FE FF", "03 00 04 00 FF FF 00", 6);
+    one("04 00", "03 00 04 00 05 00 09", 6);
+    one("05 00", "03 00 04 00 05 00 09", 5);
+    one("04 00", "01 00 04 00 05", 3);
+    one("04 00", "02 00 04 00 05 00", 6);
+    one("05 00", "02 00 04 00 05 00", 3);
+    one("04 00", "04 00 04 00 05 00 00 00", 6);
+    one("05 00", "04 00 04 00 05 00 00 00", 3);
+    one("00 00", "02 00 04 00 00 00", 6);
+
+    let two = |highest: &str, second: &str, number: u8, at: usize| {
+        let first = "03 00 04 00 05 00 00";
+        let head = format!("04 00 07 00 04 02 {highest}");
+        matrix_gives(&format!("{head} / {first} / {second}"), number, at);
+    };
+    two("09 00", "03 00 04 00 09 00 00", 0, 0);
+    two("08 00", "03 00 04 00 09 00 00", 6, 15);
+    two("05 00", "03 00 04 00 09 00 00", 6, 15);
+    two("05 00", "03 00 04 00 05 00 00", 7, 15);
+    two("05 00", "03 00 04 00 04 00 00", 7, 15);
+    two("04 00", "03 00 04 00 05 00 00", 6, 8);
+    two("08 00", "03 00 04 00 09 00 09", 6, 15);
+}
+
+/// Where no whole matrix comes to it: behind a thing that is itself above the highest 7 comes first.
+#[test]
+fn a_thing_not_above_the_last_comes_first() {
+    let gives = |thing: &str, last: u16, highest: u16, number: u8| {
+        let bytes = bytes(thing);
+        let record = Record::read(&bytes, 0, THING).expect("a thing's front");
+        let answer = read_thing(record, &key_scheme(), last, highest);
+        let found = answer.map_or_else(|found| found.fault.number(), |_| 0);
+        assert_eq!(found, number, "{thing} behind {last}, of {highest}");
+    };
+    let nine = "03 00 04 00 09 00 00";
+    gives(nine, 8, 9, 0);
+    gives(nine, 9, 9, 7);
+    gives(nine, 9, 8, 7);
+    gives(nine, 8, 8, 6);
+    gives("03 00 04 00 00 00 00", 9, 0, 6);
+    gives("03 00 04 00 09 00 09", 9, 8, 7);
+    gives("03 00 04 00 09 00 09", 8, 8, 6);
+    gives("03 00 04 00 09 00 09", 8, 9, 5);
 }
 
 #[test]
 fn cells() {
-    let things =
-        "02 00 03 00 04 03 / 03 00 04 00 05 00 00 / 03 00 04 00 09 00 01 / 03 00 04 00 0C 00 02";
+    let things = "04 00 07 00 04 03 0C 00 / \
+        03 00 04 00 05 00 00 / 03 00 04 00 09 00 01 / 03 00 04 00 0C 00 02";
     let cell = |body: &str, number: u8| {
         let length = format!("{:02X}", bytes(body).len());
-        matrix_gives(&format!("{things} {length} 00 05 00 {body}"), number, 27);
+        matrix_gives(&format!("{things} {length} 00 05 00 {body}"), number, 29);
     };
     cell("00", 3);
     cell("00 00", 5);
@@ -228,13 +311,13 @@ fn cells() {
     cell("05 00 05 00 0F 00 00 00 00 00 00 00", 0);
     // A place not above the one before, at the column.
     let first = format!("{things} 0C 00 05 00 09 00 09 00 0F 00 00 00 00 00 00 00");
-    matrix_gives(&format!("{first} 04 00 05 00 09 00 09 00"), 7, 43);
-    matrix_gives(&format!("{first} 04 00 05 00 09 00 05 00"), 7, 43);
-    matrix_gives(&format!("{first} 04 00 05 00 05 00 0C 00"), 7, 43);
-    matrix_gives(&format!("{first} 04 00 05 00 05 00 08 00"), 5, 43);
-    matrix_gives(&format!("{first} 04 00 05 00 09 00 0C 00"), 3, 43);
-    matrix_gives(&format!("{first} 00"), 1, 43);
-    matrix_gives(&format!("{first} 03 00 04 00 0D 00 00"), 2, 43);
+    matrix_gives(&format!("{first} 04 00 05 00 09 00 09 00"), 7, 45);
+    matrix_gives(&format!("{first} 04 00 05 00 09 00 05 00"), 7, 45);
+    matrix_gives(&format!("{first} 04 00 05 00 05 00 0C 00"), 7, 45);
+    matrix_gives(&format!("{first} 04 00 05 00 05 00 08 00"), 5, 45);
+    matrix_gives(&format!("{first} 04 00 05 00 09 00 0C 00"), 3, 45);
+    matrix_gives(&format!("{first} 00"), 1, 45);
+    matrix_gives(&format!("{first} 03 00 04 00 0D 00 00"), 2, 45);
 }
 
 #[test]

@@ -13,8 +13,8 @@ fn a_bad_scheme_or_matrix_prints_one_line() {
     longer.push(0);
     assert_eq!(play(&longer, &[], &[]), "bad 47 8\n");
     let mut matrix = bytes(KEY_MATRIX);
-    matrix[10] = 0;
-    assert_eq!(play(&bytes(KEY_SCHEME), &matrix, &[]), "bad 6 6\n");
+    matrix[12] = 0;
+    assert_eq!(play(&bytes(KEY_SCHEME), &matrix, &[]), "bad 8 6\n");
 }
 
 #[test]

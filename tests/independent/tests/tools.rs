@@ -38,13 +38,14 @@ fn check_says_how_much_there_is() {
 #[test]
 fn run_writes_what_the_list_leaves() {
     let text = "request command result test steps\n0 1 0 255 3\n1 0 0 255 2\n2 1 14 1 2\n";
-    let after = used("run s m q m", key(), 0, &format!("{text}m: 75 bytes\n"));
-    assert_eq!(after["m"][65..67], [12, 0]);
-    assert_eq!(after["m"][67], 10);
+    let after = used("run s m q m", key(), 0, &format!("{text}m: 77 bytes\n"));
+    assert_eq!(after["m"][..8], [4, 0, 7, 0, 4, 3, 12, 0]);
+    assert_eq!(after["m"][67..69], [12, 0]);
+    assert_eq!(after["m"][69], 10);
 
     let mut cut = key();
     cut.get_mut("q").unwrap().truncate(19);
-    let said = "request command result test steps\n0 1 0 255 3\nbad 10 1\nout: 59 bytes\n";
+    let said = "request command result test steps\n0 1 0 255 3\nbad 10 1\nout: 61 bytes\n";
     assert_eq!(used("run s m q out", cut, 1, said).len(), 4);
 
     let refused = "m: refused with number 2 at position 0; nothing was written\n";
@@ -53,8 +54,9 @@ fn run_writes_what_the_list_leaves() {
 
 #[test]
 fn convert_writes_both_or_neither() {
-    let after = used("convert s m a b", key(), 0, "a: 55 bytes\nb: 123 bytes\n");
+    let after = used("convert s m a b", key(), 0, "a: 55 bytes\nb: 125 bytes\n");
     assert_eq!(after["a"][4], 8);
+    assert_eq!(after["b"][..8], [4, 0, 7, 0, 8, 3, 12, 0]);
 
     // 33 rights can't be converted; a matrix of another scheme is told before that.
     let mut many = key();
@@ -96,5 +98,5 @@ fn wrong_uses_do_nothing() {
     ] {
         assert_eq!(used(words, key(), 2, ""), key());
     }
-    used("convert s m s m", key(), 0, "s: 55 bytes\nm: 123 bytes\n");
+    used("convert s m s m", key(), 0, "s: 55 bytes\nm: 125 bytes\n");
 }

@@ -15,7 +15,7 @@ returns : tie.Need-returns
 returns c = c .is-zero .ensures ∙ rw (eq-eqb _ _ (c .before .if1 .taken))
 
 returns-2 : tie.Need-returns-2
-returns-2 c = c .below .ensures ∙ rw (ne-eqb _ _ (c .before .if1 .left))
+returns-2 c = rw (c .below .ensures, ne-eqb _ _ (c .before .if1 .left))
 
 pub seat-accepted-spec : {M : Type 1} → statement M
 seat-accepted-spec = tie.close (tie.spec is-zero-requires below-requires returns returns-2)

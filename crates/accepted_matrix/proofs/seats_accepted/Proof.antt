@@ -1,8 +1,9 @@
 -- The walk over the seats carries along whether all were accepted.
 use Prim.Native.Nat.{_-_}
-use mathlib.Core.Path.{_∙_}
 use borrow.Author.Needs.{needs}
-use Rattle.accepted_matrix.proofs.MatrixLaws.{seatFine, Seats, seats-start, seats-on, seats-end, seat-is}
+use Rattle.model.specs.Seats.{thingIn}
+use Rattle.model.specs.Accepted.{zeroThing, acceptedSeat}
+use Rattle.accepted_matrix.proofs.MatrixLaws.{seatFine, Seats, seats-start, seats-on, seats-end}
 use Rattle.accepted_matrix.proofs.seats_accepted.Statement.{statement}
 use Rattle.accepted_matrix.proofs.seats_accepted.Tie as tie
 
@@ -34,11 +35,11 @@ loop-less : tie.Need-loop-less Inv-loop μ-loop
 loop-less c = search needs
 
 loop-again : tie.Need-loop-again Inv-loop μ-loop
+unfolding acceptedSeat zeroThing thingIn
 loop-again c =
     let t = c .before .before .before in
     let l = t .before .loop in
-    let a = t .before .before .args in
-    seats-on _ (l .inv) _ (t .loop-test .taken) (c .seat-accepted .ensures ∙ seat-is (a .h) (a .t2) (l .i) (search needs))
+    seats-on _ (l .inv) _ (t .loop-test .taken) (c .seat-accepted .ensures)
 
 returns : tie.Need-returns Inv-loop μ-loop
 returns c = seats-end _ (c .before .loop .inv) (c .loop-test .left)

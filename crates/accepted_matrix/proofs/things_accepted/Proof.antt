@@ -1,8 +1,11 @@
--- The two calls are `acceptedThings` but for the number of ids and of types, which is the arrays'.
+-- The two calls are `acceptedThings` but for the number of ids and of types, which is the arrays', and for the highest, which is a u16.
 use mathlib.Core.Path.{_≡_}
 use lib.ListN.{length}
 use borrow.Author.Needs.{needs}
-use borrow.Author.Tests.{eq-eqb}
+use borrow.Author.Tests.{eq-eqb, le-leb}
+use mir.Syntax.{w16}
+use mir.Val.{Fits}
+use native.Mathlib.Omega.{arith}
 use Rattle.laws.proofs.Walks.{long}
 use Rattle.model.specs.Accepted.{acceptedThings}
 use Rattle.accepted_matrix.proofs.things_accepted.Statement.{statement}
@@ -20,7 +23,8 @@ returns c =
     let th = c .before .before .before .args .th in
     let full : length (th .ids) ≡ 48 = search needs in
     let typed : length (th .types) ≡ 48 = search (needs, long) in
-    rw (c .before .ids-apart .ensures, c .seats-accepted .ensures, eq-eqb _ _ full, eq-eqb _ _ typed)
+    let small : Fits w16 (th .highest) = search needs in
+    rw (c .before .ids-apart .ensures, c .seats-accepted .ensures, eq-eqb _ _ full, eq-eqb _ _ typed, le-leb (th .highest) 65535 (omega arith))
 
 pub things-accepted-spec : {M : Type 1} → statement M
 things-accepted-spec = tie.close (tie.spec ids-apart-requires seats-accepted-requires returns)

@@ -21,9 +21,9 @@ use Rattle.matrix_bytes.specs.declared.answers.MatrixAnswer.{MatrixAnswe
 abbrev pub refusedAt : Things → ℕ → ℕ → MatrixAnswer
 refusedAt things k at = record { answer = Refused k at; things = things }
 
-abbrev pub asThings : Read ℕ Refusal (List ThingRecord) → MatrixAnswer
-asThings (got ts next) = record { answer = Done next; things = thingsFrom ts }
-asThings (fault f) = refusedAt noThings (f .number) (f .at)
+abbrev pub asThings : ℕ → Read ℕ Refusal (List ThingRecord) → MatrixAnswer
+asThings highest (got ts next) = record { answer = Done next; things = thingsFrom highest ts }
+asThings highest (fault f) = refusedAt noThings (f .number) (f .at)
 
 -- the cells from a position to the end of the input, of the first n things
 abbrev pub cellsFrom : List ℕ → Head → Things → ℕ → ℕ → Read ℕ Refusal (List CellRecord)

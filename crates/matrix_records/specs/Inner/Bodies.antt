@@ -10,7 +10,7 @@ use Rattle.model.specs.Seats.{find}
 use Rattle.model.specs.declared.Head.{Head}
 use Rattle.records.specs.Reading.{Read, got, fault, Body, _>>=_, _>>_, done, check, number}
 use Rattle.records.specs.Front.{onBody}
-use Rattle.matrix_records.specs.Content.{ThingRecord, CellRecord}
+use Rattle.matrix_records.specs.Content.{Stated, ThingRecord, CellRecord}
 use Rattle.matrix_records.specs.Read.{thingWith}
 use Rattle.matrix_records.specs.Answers.{asHeadAt, asThingAt, asCellAt}
 use Rattle.matrix_records.specs.declared.answers.Front.{Front}
@@ -20,7 +20,7 @@ use Rattle.matrix_records.specs.declared.answers.CellAt.{CellAt}
 use Rattle.matrix_records.specs.declared.answers.SeatAt.{SeatAt}
 use Rattle.matrix_records.specs.declared.answers.SeatAt.the-variants as seat-at
 
-abbrev pub headOf : Front → Read (List ℕ) ℕ ℕ → HeadAt
+abbrev pub headOf : Front → Read (List ℕ) ℕ Stated → HeadAt
 headOf f m = asHeadAt (f .kind) (onBody (f .at) (f .next) m)
 
 abbrev pub thingOf : Front → Read (List ℕ) ℕ ThingRecord → ThingAt

@@ -1,4 +1,4 @@
--- Two stores at one seat; past the last seat neither list changes.
+-- The highest is the larger of two; then two stores at one seat, and past the last seat neither list changes.
 use mathlib.Core.Path.{_≡_}
 use lib.ListN.{length}
 use lib.Seq.{set-out}
@@ -8,6 +8,9 @@ use native.Mathlib.Omega.{arith}
 use borrow.Author.Needs.{needs}
 use Rattle.things.proofs.put_thing.Statement.{statement}
 use Rattle.things.proofs.put_thing.Tie as tie
+
+larger-requires : tie.Need-larger-requires
+larger-requires c κs = search needs
 
 mul-next : tie.Need-mul-next
 mul-next c = search needs
@@ -20,16 +23,16 @@ element-set-from-t c = search needs
 
 returns : tie.Need-returns
 unfolding putThing
-returns c = search needs
+returns c = rw (c .before .larger .ensures)
 
 returns-2 : tie.Need-returns-2
 unfolding putThing
 returns-2 c =
-    let a = c .before .args in
+    let a = c .before .before .args in
     let ids : length (a .th .ids) ≡ 48 = search needs in
     let types : length (a .th .types) ≡ 48 = search (needs, long) in
-    rw (set-out (a .th .ids) (a .i) (a .x) (omega arith), set-out (a .th .types) (a .i) (a .t) (omega arith))
+    rw (c .before .larger .ensures, set-out (a .th .ids) (a .i) (a .x) (omega arith), set-out (a .th .types) (a .i) (a .t) (omega arith))
 
 pub put-thing-spec : {M : Type 1} → statement M
 put-thing-spec =
-    tie.close (tie.spec mul-next element-write-next element-set-from-t returns returns-2)
+    tie.close (tie.spec larger-requires mul-next element-write-next element-set-from-t returns returns-2)

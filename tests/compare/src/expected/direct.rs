@@ -1,6 +1,5 @@
 //! Requests handed in directly: written in several places, and carried out where that is possible.
 
-use independent::engine::carry_out;
 use independent::generate::Case;
 use independent::matrix::{write_matrix, Matrix};
 use independent::request::write_request;
@@ -9,6 +8,7 @@ use independent::scheme::Scheme;
 use super::running::ran;
 use super::{written, Refused, LARGE, REQUESTS};
 use crate::counts::Counts;
+use crate::list::counted;
 use crate::told::{Call, Told};
 
 pub fn expect(
@@ -35,7 +35,7 @@ pub fn expect(
         }
         behind += length;
         if let Some((scheme, matrix)) = &mut matrix {
-            let answer = carry_out(scheme, matrix, *command as usize, ids);
+            let answer = counted(scheme, matrix, *command, ids, &mut counts.highest);
             counts.answer(answer);
             let bytes = write_matrix(matrix, scheme);
             told.push(ran(Call::RunDirect { request }, &[answer], &bytes, None));

@@ -169,13 +169,15 @@ fn told(
     Ok([&[kind], &read(record, head)?[..], &[next]].concat())
 }
 
+/// How many things it states, and the highest id.
 fn matrix_head(bytes: &[u8], at: usize, context: &Context, head: Option<&Scheme>) -> Said {
     let methods = [
         "matrix_records::HeadAt::number",
         "matrix_records::HeadAt::at",
     ];
     let found = told(bytes, at, context, head, |record, scheme| {
-        Ok(vec![read_head(record, scheme)?.into()])
+        let (things, highest) = read_head(record, scheme)?;
+        Ok(vec![things.into(), highest.into()])
     });
     Said::default().answer("matrix_records::read_head", methods, found)
 }
@@ -187,7 +189,7 @@ fn thing(bytes: &[u8], at: usize, context: &Context, head: Option<&Scheme>) -> S
         "matrix_records::ThingAt::at",
     ];
     let found = told(bytes, at, context, head, |record, scheme| {
-        let (id, kind) = read_thing(record, scheme, context.last.0)?;
+        let (id, kind) = read_thing(record, scheme, context.last.0, context.highest)?;
         Ok(vec![id.into(), kind.into()])
     });
     Said::default().answer("matrix_records::read_thing", methods, found)

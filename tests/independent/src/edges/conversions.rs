@@ -41,6 +41,7 @@ pub fn cases() -> Vec<Case> {
         cases.extend(converted(&format!("convert-{label}"), &scheme, &matrix));
     }
     cases.extend(key_example());
+    cases.extend(highests());
     cases.extend(largest());
     cases
 }
@@ -122,7 +123,7 @@ fn bytes(scheme: &Scheme, matrix: &Matrix) -> (Vec<u8>, Vec<u8>) {
     (write_scheme(&new_scheme), new_matrix)
 }
 
-/// Converted to 55 bytes and 123; then load, retire, load as a robot carries them out.
+/// Converted to 55 bytes and 125; then load, retire, load as a robot carries them out.
 fn key_example() -> Vec<Case> {
     let (scheme, _) = read_scheme(&KEY_SCHEME).expect("the key example");
     let matrix = read_matrix(&KEY_MATRIX, &scheme).expect("the key example");
@@ -138,10 +139,26 @@ fn key_example() -> Vec<Case> {
         ask("robot-load", LOAD, [9, 12]),
         ask("robot-retire", RETIRE, [5, 9]),
         ask("robot-load-after", LOAD, [9, 12]),
-        case("robot-matrix-after", Task::WriteMatrix(123)),
+        case("robot-matrix-after", Task::WriteMatrix(125)),
         case("robot-totals", Task::Totals),
         case("robot-scheme-converted-twice", Task::ConvertScheme(100)),
     ]);
+    cases
+}
+
+/// The highest id stays as it is, above the things' and without any.
+fn highests() -> Vec<Case> {
+    let scheme = scheme(4, &[(1, None)]);
+    let mut cases = Vec::new();
+    for (name, of) in [("things", matrix(&scheme)), ("none", Matrix::new())] {
+        for highest in [301, 40_000, 65_535] {
+            let mut matrix = of.clone();
+            matrix.raise_highest(highest);
+            let label = format!("convert-{name}-highest-{highest}");
+            cases.extend(converted(&label, &scheme, &matrix));
+        }
+    }
+    cases.extend(converted("convert-nothing", &scheme, &Matrix::new()));
     cases
 }
 

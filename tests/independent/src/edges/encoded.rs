@@ -51,6 +51,7 @@ impl Task {
             Task::NoThings => (14, vec![]),
             Task::Plan { ask, spots, .. } => (15, behind(spots, &ask.bytes())),
             Task::PutThing { id, kind, .. } => (16, behind(&id.to_le_bytes(), &[*kind])),
+            Task::SetHighest(_) => (17, vec![]),
             _ => self.asking(),
         }
     }
@@ -95,6 +96,7 @@ impl Task {
             Task::ReadCommand { at, .. } => *at,
             Task::CommandAccepted(command) => *command,
             Task::PutThing { seat, .. } => *seat,
+            Task::SetHighest(highest) => (*highest).into(),
             Task::CopyCells { place, .. } => *place,
             Task::Plan { parameter, .. } => (*parameter).into(),
             Task::Form { operations, .. } => *operations,
@@ -141,7 +143,8 @@ impl Context {
     fn bytes(&self) -> Vec<u8> {
         let twos = [self.kinds, self.last.0, self.last.1];
         let twos: Vec<u8> = twos.iter().flat_map(|two| two.to_le_bytes()).collect();
-        behind(&twos, &self.things.to_le_bytes())
+        let things = behind(&twos, &self.things.to_le_bytes());
+        behind(&things, &self.highest.to_le_bytes())
     }
 }
 

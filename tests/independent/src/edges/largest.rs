@@ -1,4 +1,4 @@
-//! The largest scheme, 6,633 bytes, and the largest matrix, 37,206 bytes: read, written into just enough and into a byte less, counted, asked.
+//! The largest scheme, 6,633 bytes, and the largest matrix, 37,208 bytes: read, written into just enough and into a byte less, counted, asked.
 
 use super::tasks::Ask;
 use super::{case, Case, Task};
@@ -58,10 +58,12 @@ pub fn cases() -> Vec<Case> {
         case("largest-scheme", Task::WriteScheme(6_633)),
         case("largest-scheme-short", Task::WriteScheme(6_632)),
         case("largest-matrix-read", Task::ReadMatrix(matrix)),
-        case("largest-matrix", Task::WriteMatrix(37_206)),
-        case("largest-matrix-short", Task::WriteMatrix(37_205)),
-        case("largest-matrix-by-head", Task::WriteMatrixByHead(37_206)),
-        case("largest-by-head-short", Task::WriteMatrixByHead(37_205)),
+        case("largest-matrix", Task::WriteMatrix(37_208)),
+        case("largest-matrix-short", Task::WriteMatrix(37_207)),
+        case("largest-matrix-by-head", Task::WriteMatrixByHead(37_208)),
+        case("largest-by-head-short", Task::WriteMatrixByHead(37_207)),
+        case("largest-highest", Task::SetHighest(65_535)),
+        case("largest-highest-written", Task::WriteMatrix(37_208)),
         case("largest-accepted", Task::Accepted),
         case("largest-command", Task::CommandAccepted(31)),
         case("largest-totals", Task::Totals),

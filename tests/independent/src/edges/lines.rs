@@ -110,6 +110,10 @@ impl State {
                 self.seats.put_thing(*seat, *id, *kind);
                 said.through("things::put_thing", 0)
             }
+            Task::SetHighest(highest) => {
+                self.seats.set_highest(*highest);
+                said
+            }
             Task::Plan {
                 ask,
                 spots,

@@ -1,14 +1,93 @@
-//! Lists of requests: just enough room for the answers, three bytes each, more and less (9), and records that can't be read.
+//! Lists of requests: just enough room for the answers, three bytes each, more and less (9), records that can't be read, and ids that are used up.
 
-use super::carrying_out::totals;
+use super::carrying_out::{makers, things_with, totals};
 use super::examples::{key_scheme, KEY_MATRIX, LOAD, RETIRE};
 use super::{case, Case, Task};
 use crate::request::write_request;
+use crate::scheme::write_scheme;
 
 pub fn cases() -> Vec<Case> {
     let mut cases = vec![key_scheme("key-scheme-of-lists")];
     for (label, list, room) in [whole(), with_a_bad_record()].concat() {
         cases.extend(run(label, &KEY_MATRIX, &list, room));
+    }
+    cases.extend(used_up());
+    cases
+}
+
+/// Requests of the makers' commands.
+type Requests = &'static [(u8, &'static [u16])];
+
+/// A label, how many things there are and the highest id; what is destroyed and asked for again, refusals between creates, the last ids that there are, and
+/// a matrix that is full.
+const USED_UP: &[(&str, [u16; 2], Requests)] = &[
+    (
+        "list-again",
+        [9, 9],
+        &[
+            (0, &[10]),
+            (2, &[10, 1]),
+            (0, &[10]),
+            (0, &[11]),
+            (0, &[1]),
+            (5, &[12]),
+            (0, &[12]),
+            (1, &[13, 14]),
+            (3, &[14, 2]),
+            (3, &[15, 2]),
+        ],
+    ),
+    (
+        "list-between",
+        [9, 19],
+        &[
+            (1, &[20, 20]),
+            (1, &[21, 20]),
+            (4, &[20, 2, 2]),
+            (0, &[20]),
+            (1, &[22, 21]),
+            (1, &[21, 22]),
+        ],
+    ),
+    (
+        "list-last",
+        [9, 65_533],
+        &[
+            (0, &[65_534]),
+            (1, &[65_535, 65_535]),
+            (0, &[65_535]),
+            (0, &[65_535]),
+            (2, &[65_535, 65_534]),
+            (0, &[65_535]),
+            (1, &[1, 2]),
+        ],
+    ),
+    (
+        "list-full",
+        [47, 60],
+        &[
+            (1, &[61, 62]),
+            (0, &[61]),
+            (0, &[61]),
+            (0, &[62]),
+            (2, &[61, 1]),
+            (1, &[62, 61]),
+            (1, &[62, 63]),
+            (0, &[63]),
+            (0, &[64]),
+        ],
+    ),
+];
+
+/// Behind each list the matrix that it leaves is written, by which the highest id shows too.
+fn used_up() -> Vec<Case> {
+    let makers = Task::ReadScheme(write_scheme(&makers()));
+    let mut cases = vec![case("makers-of-lists", makers)];
+    for &(label, [count, highest], list) in USED_UP {
+        let matrix = things_with(count, highest);
+        cases.extend(run(label, &matrix, &requests(list), 30));
+        let written = format!("{label}-written");
+        cases.push(case(written, Task::WriteMatrix(400)));
     }
     cases
 }

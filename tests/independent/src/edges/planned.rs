@@ -24,7 +24,8 @@ pub fn located(seats: &Seats, command: &CommandValue, ids: &[u16]) -> Result<Spo
     Ok(spots)
 }
 
-/// The things after all operations, and where the created ones sit too; or the first fault and its operation's place. An id that isn't there is 0.
+/// The things after all operations, and where the created ones sit too; or the first fault and its operation's place. An id that isn't there is 0, which
+/// is above no highest id.
 pub fn planned(
     seats: &Seats,
     command: &CommandValue,
@@ -38,7 +39,8 @@ pub fn planned(
         match code {
             3 => {
                 let free = after.seat_in(u64::MAX, 0);
-                if after.type_of(u64::MAX, id).is_some() {
+                // By the highest alone, also where a thing has an id above it.
+                if id <= after.highest() {
                     return Err(fault(15));
                 }
                 if free == SEATS {

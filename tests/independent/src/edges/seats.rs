@@ -1,5 +1,5 @@
-//! A matrix as the functions are handed it: 48 seats, and the cells of each two of them. What a reading gives has zeros at free seats and where no
-//! cell exists (docs/DECISIONS.md, "Values handed in"); any other value is a stranger, which is 27 everywhere.
+//! A matrix as the functions are handed it: 48 seats, the highest id, and the cells of each two seats. What a reading gives has zeros at free seats and
+//! where no cell exists, and no id above the highest (docs/DECISIONS.md, "Values handed in"); any other value is a stranger, which is 27 everywhere.
 
 use std::collections::BTreeSet;
 
@@ -17,6 +17,7 @@ pub const MOST_CELLS: usize = 2_400;
 pub struct Seats {
     ids: [u16; SEATS],
     types: [u8; SEATS],
+    highest: u16,
     cells: Vec<u64>,
 }
 
@@ -25,16 +26,27 @@ impl Seats {
         Seats {
             ids: [0; SEATS],
             types: [0; SEATS],
+            highest: 0,
             cells: vec![0; MOST_CELLS],
         }
     }
 
     pub fn sum(&self) -> u64 {
-        sums::matrix(&self.ids, &self.types, &self.cells)
+        sums::matrix(&self.ids, &self.types, self.highest, &self.cells)
     }
 
-    /// Past the last seat nothing changes.
+    pub fn highest(&self) -> u16 {
+        self.highest
+    }
+
+    /// Whatever the things' ids are.
+    pub fn set_highest(&mut self, highest: u16) {
+        self.highest = highest;
+    }
+
+    /// An id above the highest becomes the highest. Past the last seat nothing else changes.
     pub fn put_thing(&mut self, seat: u64, id: u16, kind: u8) {
+        self.highest = self.highest.max(id);
         let seat = usize::try_from(seat).unwrap_or(SEATS);
         if seat < SEATS {
             self.ids[seat] = id;
@@ -65,6 +77,7 @@ impl Seats {
     pub fn no_things(&mut self) {
         self.ids = [0; SEATS];
         self.types = [0; SEATS];
+        self.highest = 0;
     }
 
     /// From a place on, as many as there are sets and lent cells.
@@ -81,6 +94,7 @@ impl Seats {
         for (seat, (&id, &kind)) in matrix.things().iter().enumerate() {
             self.put_thing(seat as u64, id, kind);
         }
+        self.highest = matrix.highest();
         self.fill(matrix);
     }
 
@@ -102,6 +116,7 @@ impl Seats {
         for seat in 0..SEATS {
             self.types[seat] = after.type_of(self.ids[seat]).unwrap_or(0);
         }
+        self.highest = after.highest();
         self.fill(after);
     }
 
@@ -119,13 +134,13 @@ impl Seats {
         seat.expect("there is such a seat")
     }
 
-    /// Ids that differ, types below m, and type 0 at each free seat.
+    /// Ids that differ and aren't above the highest, types below m, and type 0 at each free seat.
     pub fn things_accepted(&self, head: &Scheme) -> bool {
         let taken: Vec<u16> = self.ids.iter().copied().filter(|&id| id != 0).collect();
         let apart: BTreeSet<u16> = taken.iter().copied().collect();
         let fits = |(&id, &kind): (&u16, &u8)| match id {
             0 => kind == 0,
-            _ => kind < head.types,
+            _ => kind < head.types && id <= self.highest,
         };
         apart.len() == taken.len() && self.ids.iter().zip(&self.types).all(fits)
     }
@@ -150,6 +165,7 @@ impl Seats {
                 matrix.create(head, id, kind);
             }
         }
+        matrix.raise_highest(self.highest);
         for (place, &rights) in self.cells[..CELLS].iter().enumerate() {
             if rights != 0 {
                 let (row, column) = (self.ids[place / SEATS], self.ids[place % SEATS]);

@@ -25,7 +25,7 @@ pub fn cases() -> Vec<Case> {
         cases.extend(made(&label, tasks));
         cases.extend(asked_of_scheme(&label));
     }
-    for (label, tasks) in matrices() {
+    for (label, tasks) in [matrices(), highests()].concat() {
         cases.extend(made(&label, tasks));
         cases.extend(asked_of_matrix(&label, 2_304));
     }
@@ -378,6 +378,39 @@ fn matrices() -> Vec<Stranger> {
     ]
 }
 
+/// An id above the highest is a stranger, at the first seat and at the last, the first byte and the second; one at the highest is none. Without things
+/// any number is accepted.
+fn highests() -> Vec<Stranger> {
+    let set = Task::SetHighest;
+    let with = |label: &str, seat, id, highest| {
+        let kind = if seat == 2 { 2 } else { 1 };
+        let thing = Task::PutThing { seat, id, kind };
+        stranger(label, vec![thing, set(highest)])
+    };
+    let key = |highest: u16| stranger(&format!("key-highest-{highest}"), vec![set(highest)]);
+    let none = |highest: u16| {
+        let read = Task::ReadMatrix(vec![4, 0, 7, 0, 4, 0, 9, 0]);
+        let label = format!("no-things-highest-{highest}");
+        stranger(&label, vec![read, set(highest)])
+    };
+    let mut strangers = vec![
+        with("id-13-at-0-highest-12", 0, 13, 12),
+        with("id-13-at-0-highest-13", 0, 13, 13),
+        with("id-13-at-2-highest-12", 2, 13, 12),
+        with("id-13-at-2-highest-13", 2, 13, 13),
+        with("id-40-at-47-highest-39", 47, 40, 39),
+        with("id-40-at-47-highest-40", 47, 40, 40),
+        with("id-256-at-47-highest-255", 47, 256, 255),
+        with("id-256-at-47-highest-256", 47, 256, 256),
+        with("id-65535-at-0-highest-65534", 0, 65_535, 65_534),
+        with("id-65535-at-47-highest-65534", 47, 65_535, 65_534),
+        with("id-65535-at-47-highest-65535", 47, 65_535, 65_535),
+    ];
+    strangers.extend([0, 4, 5, 8, 9, 11, 12, 13, 268, 65_535].map(key));
+    strangers.extend([0, 1, 12, 256, 65_534, 65_535].map(none));
+    strangers
+}
+
 /// 27 comes before 9, and before what is wrong with a request or a list.
 fn before_room() -> Vec<Case> {
     let ask = Ask {
@@ -400,6 +433,7 @@ fn before_room() -> Vec<Case> {
     let strangers = [
         ("no-room-scheme", Task::SetHead(65, 3, 3, 2)),
         ("no-room-matrix", set_cell(3, 1)),
+        ("no-room-highest", Task::SetHighest(11)),
     ];
     let mut cases = Vec::new();
     for (label, task) in strangers {

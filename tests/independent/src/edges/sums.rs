@@ -19,12 +19,13 @@ pub fn ids(ids: &[u16]) -> u64 {
     all(ids.iter().map(|&id| u64::from(id)))
 }
 
-/// Id and type of each seat, then the two halves of each cell.
-pub fn matrix(ids: &[u16], types: &[u8], cells: &[u64]) -> u64 {
+/// Id and type of each seat, the highest id, then the two halves of each cell.
+pub fn matrix(ids: &[u16], types: &[u8], highest: u16, cells: &[u64]) -> u64 {
     let things = ids.iter().zip(types);
     let things = things.flat_map(|(&id, &kind)| [u64::from(id), u64::from(kind)]);
     let cells = cells.iter();
-    all(things.chain(cells.flat_map(|cell| [cell & 0xFFFF_FFFF, cell >> 32])))
+    let cells = cells.flat_map(|cell| [cell & 0xFFFF_FFFF, cell >> 32]);
+    all(things.chain([u64::from(highest)]).chain(cells))
 }
 
 /// What a lent buffer holds before the call: no zeros.

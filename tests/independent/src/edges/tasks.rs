@@ -33,6 +33,8 @@ pub enum Task {
         id: u16,
         kind: u8,
     },
+    /// The highest id alone.
+    SetHighest(u16),
     /// The things of a request are located. Then its creates and destroys are planned with the spots that are given, that of all parameters but the second,
     /// and that of the second: the things become those of the plan. With both, one parameter's spot is told.
     Plan {
@@ -141,12 +143,13 @@ pub enum Read {
 }
 
 /// What the records before a matrix's record left: the kinds that may stand there, the place of the cell before (for a thing, the id before as its row),
-/// and how many of the first seats count. The scheme's head and the things are those of the cases.
+/// how many of the first seats count, and (for a thing) the highest id that the head stated. The scheme's head and the things are those of the cases.
 #[derive(Clone, Copy, Debug, PartialEq, Eq)]
 pub struct Context {
     pub kinds: u16,
     pub last: (u16, u16),
     pub things: u64,
+    pub highest: u16,
 }
 
 /// Into a buffer, at a position.

@@ -1,5 +1,5 @@
-//! Seats asked for ids, things put at seats, and cells copied: what is found and what isn't, the first seat, the last and those past it, lists of other
-//! lengths.
+//! Seats asked for ids, things put at seats, the highest id, and cells copied: what is found and what isn't, the first seat, the last and those past it,
+//! lists of other lengths.
 
 use super::examples::{key_matrix, key_scheme};
 use super::{case, Case, Task};
@@ -11,6 +11,7 @@ pub fn cases() -> Vec<Case> {
     ];
     cases.extend(asked("key"));
     cases.extend(puts());
+    cases.extend(highests());
     cases.extend(full());
     cases.extend(copies());
     cases
@@ -33,15 +34,19 @@ fn put(label: &str, seat: u64, id: u16, kind: u8) -> Case {
     case(format!("put-{label}"), task)
 }
 
-/// Past the last seat nothing changes; of two seats with one id the first is found.
+/// Past the last seat no seat changes, but an id above the highest still becomes it; of two seats with one id the first is found.
 fn puts() -> Vec<Case> {
     let mut cases = vec![
+        put("7-at-48", 48, 7, 1),
+        put("12-at-48", 48, 12, 1),
+        put("0-at-48", 48, 0, 1),
         put("at-48", 48, 77, 1),
-        put("at-49", 49, 77, 1),
-        put("at-255", 255, 77, 1),
-        put("at-256", 256, 77, 1),
-        put("at-the-last", u64::MAX, 77, 1),
+        put("at-49", 49, 78, 1),
+        put("at-255", 255, 79, 1),
+        put("at-256", 256, 80, 1),
+        put("at-the-last", u64::MAX, 81, 1),
         case("put-totals", Task::Totals),
+        case("put-written", Task::WriteMatrix(64)),
         put("at-47", 47, 65_535, 2),
         case("put-totals-at-47", Task::Totals),
         put("second-9", 46, 9, 255),
@@ -54,6 +59,38 @@ fn puts() -> Vec<Case> {
     cases.push(case("no-things-accepted", Task::Accepted));
     cases.push(case("no-things-totals", Task::Totals));
     cases.extend(asked("none"));
+    cases
+}
+
+/// Things put below the highest id, at it and above it; and the highest set alone, with which the things are accepted or not.
+fn highests() -> Vec<Case> {
+    let set = |highest: u16| {
+        let label = format!("set-highest-{highest}");
+        [
+            case(label.clone(), Task::SetHighest(highest)),
+            case(format!("{label}-accepted"), Task::Accepted),
+            case(format!("{label}-totals"), Task::Totals),
+            case(format!("{label}-written"), Task::WriteMatrix(100)),
+        ]
+    };
+    let mut cases = vec![
+        key_matrix("matrix-of-highests"),
+        put("12-again", 2, 12, 2),
+        put("11-over-12", 2, 11, 2),
+        put("13-over-11", 2, 13, 2),
+        put("0-over-13", 2, 0, 0),
+        put("12-over-0", 2, 12, 2),
+        put("65535-at-3", 3, 65_535, 2),
+        put("0-at-3", 3, 0, 0),
+    ];
+    for highest in [65_535, 65_534, 268, 13, 12, 11, 9, 8, 5, 4, 1, 0, 256] {
+        cases.extend(set(highest));
+    }
+    cases.push(case("highest-no-things", Task::NoThings));
+    cases.push(case("highest-of-no-things", Task::SetHighest(300)));
+    cases.push(put("7-of-none", 0, 7, 1));
+    cases.push(case("highest-none-again", Task::NoThings));
+    cases.push(put("7-of-nothing", 0, 7, 1));
     cases
 }
 

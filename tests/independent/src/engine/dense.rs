@@ -12,6 +12,7 @@ pub struct Dense {
     ids: [u16; SEATS],
     types: [u8; SEATS],
     things: usize,
+    highest: u16,
     cells: Box<[u64; SEATS * SEATS]>,
 }
 
@@ -21,6 +22,7 @@ impl Dense {
             ids: [0; SEATS],
             types: [0; SEATS],
             things: matrix.things().len(),
+            highest: matrix.highest(),
             cells: Box::new([0; SEATS * SEATS]),
         };
         for (seat, (&id, &kind)) in matrix.things().iter().enumerate() {
@@ -36,6 +38,7 @@ impl Dense {
 
     pub fn to_matrix(&self, scheme: &Scheme) -> Matrix {
         let mut matrix = Matrix::new();
+        matrix.raise_highest(self.highest);
         let taken: Vec<usize> = (0..SEATS).filter(|&seat| self.ids[seat] != 0).collect();
         for &seat in &taken {
             matrix.create(scheme, self.ids[seat], self.types[seat]);
@@ -113,36 +116,28 @@ impl Dense {
         })
     }
 
-    /// 15 to 17 and the operation's place, before anything changes: only creates and destroys can refuse, and ids tell things apart.
+    /// 15 to 17 and the operation's place, before anything changes: only creates and destroys can refuse.
     fn first_faulty(&self, command: &Command, ids: &[u16]) -> Option<(u8, usize)> {
-        let mut things = self.things;
-        let mut created = [0u16; 8];
-        let mut destroyed = [0u16; 8];
-        let mut gone = 0;
+        let create = self.first_faulty_create(command, ids);
+        create.or_else(|| first_faulty_destroy(command, ids))
+    }
+
+    /// Creates come first in a body, so that a create's place is the number of those before it: there is a seat for as many as there are free ones,
+    /// and the highest id and the ids of the creates must be a row that rises.
+    fn first_faulty_create(&self, command: &Command, ids: &[u16]) -> Option<(u8, usize)> {
+        let mut last = self.highest;
         for (place, operation) in command.operations.iter().enumerate() {
-            match *operation {
-                Operation::Create { parameter } => {
-                    let id = ids[parameter as usize];
-                    let so_far = things - self.things;
-                    if self.seat_of(id).is_some() || created[..so_far].contains(&id) {
-                        return Some((15, place));
-                    }
-                    if things == SEATS {
-                        return Some((16, place));
-                    }
-                    created[so_far] = id;
-                    things += 1;
-                }
-                Operation::Destroy { parameter } => {
-                    let id = ids[parameter as usize];
-                    if destroyed[..gone].contains(&id) {
-                        return Some((17, place));
-                    }
-                    destroyed[gone] = id;
-                    gone += 1;
-                }
-                Operation::Enter { .. } | Operation::Delete { .. } => {}
+            let Operation::Create { parameter } = *operation else {
+                break;
+            };
+            let id = ids[parameter as usize];
+            if id <= last {
+                return Some((15, place));
             }
+            if place == SEATS - self.things {
+                return Some((16, place));
+            }
+            last = id;
         }
         None
     }
@@ -165,6 +160,7 @@ impl Dense {
                     self.ids[seat] = ids[parameter];
                     self.types[seat] = command.parameters[parameter];
                     self.things += 1;
+                    self.highest = ids[parameter];
                     seats[parameter] = seat;
                 }
                 Operation::Destroy { parameter } => {
@@ -193,6 +189,23 @@ impl Dense {
         }
         None
     }
+}
+
+/// 17 and the operation's place. What is destroyed exists, and ids tell things apart: only one that is destroyed twice is gone.
+fn first_faulty_destroy(command: &Command, ids: &[u16]) -> Option<(u8, usize)> {
+    let mut destroyed = [0u16; 8];
+    let mut gone = 0;
+    for (place, operation) in command.operations.iter().enumerate() {
+        if let Operation::Destroy { parameter } = *operation {
+            let id = ids[parameter as usize];
+            if destroyed[..gone].contains(&id) {
+                return Some((17, place));
+            }
+            destroyed[gone] = id;
+            gone += 1;
+        }
+    }
+    None
 }
 
 fn place(row: usize, column: usize) -> usize {

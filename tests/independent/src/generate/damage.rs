@@ -6,7 +6,7 @@ use super::random::Random;
 /// One damage, at times two.
 pub fn damage(random: &mut Random, bytes: &mut Vec<u8>) {
     for _ in 0..if random.chance(1, 8) { 2 } else { 1 } {
-        match random.below(22) {
+        match random.below(24) {
             0 | 1 => change_byte(random, bytes),
             2 => cut(random, bytes),
             3 => insert(random, bytes),
@@ -20,6 +20,8 @@ pub fn damage(random: &mut Random, bytes: &mut Vec<u8>) {
             12 => copy_quad(random, bytes),
             13 | 14 => change_record(random, bytes),
             15..=17 => aim(random, bytes),
+            18 => old_head(random, bytes),
+            19 => lower_highest(random, bytes),
             _ => change_field(random, bytes),
         }
     }
@@ -115,11 +117,16 @@ fn shorten_body(random: &mut Random, bytes: &mut Vec<u8>) {
     let records = records(bytes);
     if !records.is_empty() {
         let record = *random.pick(&records);
-        let length = record.end - record.at - 4;
-        let fewer = random.from_to(1, 5).min(length);
-        bytes.drain(record.end - fewer..record.end);
-        set_length(bytes, record.at, length - fewer);
+        let fewer = random.from_to(1, 5);
+        shorten(bytes, record, fewer);
     }
+}
+
+fn shorten(bytes: &mut Vec<u8>, record: Span, fewer: usize) {
+    let length = record.end - record.at - 4;
+    let fewer = fewer.min(length);
+    bytes.drain(record.end - fewer..record.end);
+    set_length(bytes, record.at, length - fewer);
 }
 
 fn set_length(bytes: &mut [u8], at: usize, length: usize) {
@@ -175,6 +182,7 @@ const AIMS: &[(&str, &[&str])] = &[
     ("cell row", &["cell column", "thing id"]),
     ("cell rights", &[]),
     ("thing id", &[]),
+    ("highest", &["thing id"]),
 ];
 
 fn aim(random: &mut Random, bytes: &mut [u8]) {
@@ -202,6 +210,49 @@ fn aim(random: &mut Random, bytes: &mut [u8]) {
         value(bytes, *random.pick(&sources))
     };
     put_value(bytes, target, new);
+}
+
+/// A head of before has kind 3 and no highest id; or only one of the two is as it was before.
+fn old_head(random: &mut Random, bytes: &mut Vec<u8>) {
+    let Some(highest) = highest_field(bytes) else {
+        return change_field(random, bytes);
+    };
+    let front = highest.at - 6;
+    let (has_kind, has_length) =
+        *random.pick(&[(true, true), (true, true), (true, false), (false, true)]);
+    if has_kind {
+        bytes[front + 2] = 3;
+    }
+    if has_length {
+        bytes.drain(highest.at..highest.at + highest.width);
+        set_length(bytes, front, 2);
+    }
+}
+
+/// The highest id is below a thing's. At times more is wrong with that thing, which comes later: its type, or its body's end.
+fn lower_highest(random: &mut Random, bytes: &mut Vec<u8>) {
+    let things = named(&fields(bytes), &["thing id"]);
+    let highest = highest_field(bytes).filter(|_| !things.is_empty());
+    let Some(highest) = highest else {
+        return change_field(random, bytes);
+    };
+    let thing = *random.pick(&things);
+    let less = *random.pick(&[1, 1, 2, 40]);
+    let lower = value(bytes, thing).saturating_sub(less);
+    put_value(bytes, highest, lower);
+    let record = records(bytes)
+        .into_iter()
+        .find(|record| record.end > thing.at);
+    let record = record.expect("the id stands in a record");
+    match random.below(4) {
+        0 if record.end > thing.at + 2 => bytes[thing.at + 2] = 255,
+        1 => shorten(bytes, record, 1),
+        _ => {}
+    }
+}
+
+fn highest_field(bytes: &[u8]) -> Option<Field> {
+    named(&fields(bytes), &["highest"]).first().copied()
 }
 
 fn named(fields: &[Field], names: &[&str]) -> Vec<Field> {

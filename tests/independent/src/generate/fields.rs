@@ -43,7 +43,6 @@ pub fn fields(bytes: &[u8]) -> Vec<Field> {
         match walk.field("kind", 2) {
             1 => walk.all(&[("n", 1), ("m", 1), ("subjects", 2), ("commands", 1)]),
             2 => walk.command(),
-            3 => walk.all(&[("matrix n", 1), ("things", 1)]),
             4 => walk.all(&[("thing id", 2), ("thing type", 1)]),
             5 => walk.all(&[("cell row", 2), ("cell column", 2), ("cell rights", 8)]),
             6 => {
@@ -52,6 +51,7 @@ pub fn fields(bytes: &[u8]) -> Vec<Field> {
                     walk.field("id", 2);
                 }
             }
+            7 => walk.all(&[("matrix n", 1), ("things", 1), ("highest", 2)]),
             _ => {}
         }
     }

@@ -1,39 +1,56 @@
 //! Random requests for a scheme and a matrix: many that succeed, and each way to be refused.
 
+use super::ids::{not_above, rising};
 use super::matrices::id;
 use super::random::Random;
 use crate::engine::carry_out;
 use crate::matrix::Matrix;
 use crate::request::write_request;
-use crate::scheme::Scheme;
+use crate::scheme::{Command, Scheme};
 
 /// A command number and ids.
 pub type Drawn = (u8, Vec<u16>);
 
-/// A list's bytes, some requests that are given first.
-pub fn list(random: &mut Random, scheme: &Scheme, matrix: &mut Matrix, first: &[Drawn]) -> Vec<u8> {
-    let mut bytes = Vec::new();
-    for request in first {
-        put(&mut bytes, request, scheme, matrix);
-    }
-    for _ in 0..random.size(0, 60, &[0, 20, 40]) {
-        let request = request(random, scheme, matrix);
-        put(&mut bytes, &request, scheme, matrix);
-    }
-    bytes
+/// A list in the making.
+#[derive(Default)]
+struct Making {
+    bytes: Vec<u8>,
+    /// The ids of the things that it destroyed.
+    gone: Vec<u16>,
 }
 
-/// The matrix is changed along, so that later requests meet what earlier ones did.
-fn put(bytes: &mut Vec<u8>, (command, ids): &Drawn, scheme: &Scheme, matrix: &mut Matrix) {
-    bytes.extend(write_request(*command, ids).expect("at most 8 ids"));
-    carry_out(scheme, matrix, *command as usize, ids);
+/// A list's bytes, some requests that are given first.
+pub fn list(random: &mut Random, scheme: &Scheme, matrix: &mut Matrix, first: &[Drawn]) -> Vec<u8> {
+    let mut making = Making::default();
+    for request in first {
+        making.put(request, scheme, matrix);
+    }
+    for _ in 0..random.size(0, 60, &[0, 20, 40]) {
+        let request = request(random, scheme, matrix, &making.gone);
+        making.put(&request, scheme, matrix);
+    }
+    making.bytes
+}
+
+impl Making {
+    /// The matrix is changed along, so that later requests meet what earlier ones did.
+    fn put(&mut self, (command, ids): &Drawn, scheme: &Scheme, matrix: &mut Matrix) {
+        let record = write_request(*command, ids).expect("at most 8 ids");
+        self.bytes.extend(record);
+        let before: Vec<u16> = matrix.things().keys().copied().collect();
+        carry_out(scheme, matrix, *command as usize, ids);
+        let gone = before
+            .into_iter()
+            .filter(|&id| matrix.type_of(id).is_none());
+        self.gone.extend(gone);
+    }
 }
 
 /// Requests to hand in directly; some lists are longer than a record can say.
 pub fn direct(random: &mut Random, scheme: &Scheme, matrix: &Matrix) -> Vec<Drawn> {
     let mut requests = Vec::new();
     for _ in 0..random.below(4) {
-        let (command, mut ids) = request(random, scheme, matrix);
+        let (command, mut ids) = request(random, scheme, matrix, &[]);
         if random.chance(1, 3) {
             ids.resize(random.from_to(8, 12), id(random));
         }
@@ -42,7 +59,8 @@ pub fn direct(random: &mut Random, scheme: &Scheme, matrix: &Matrix) -> Vec<Draw
     requests
 }
 
-fn request(random: &mut Random, scheme: &Scheme, matrix: &Matrix) -> Drawn {
+/// Some ids are those of things that are gone.
+fn request(random: &mut Random, scheme: &Scheme, matrix: &Matrix, gone: &[u16]) -> Drawn {
     let commands = scheme.commands.len();
     if random.chance(1, 30) {
         let command = *random.pick(&[commands, commands + 1, 32, 64, 255]);
@@ -55,7 +73,8 @@ fn request(random: &mut Random, scheme: &Scheme, matrix: &Matrix) -> Drawn {
     // Half of the time a few draws are tried for one that succeeds.
     for _ in 0..if random.chance(1, 2) { 12 } else { 1 } {
         let command = random.below(commands);
-        drawn = (command as u8, ids(random, scheme, matrix, command));
+        let ids = ids(random, &scheme.commands[command], matrix, gone);
+        drawn = (command as u8, ids);
         if carry_out(scheme, &mut matrix.clone(), command, &drawn.1).number == 0 {
             return drawn;
         }
@@ -67,8 +86,8 @@ fn request(random: &mut Random, scheme: &Scheme, matrix: &Matrix) -> Drawn {
     (command, ids)
 }
 
-fn ids(random: &mut Random, scheme: &Scheme, matrix: &Matrix, command: usize) -> Vec<u16> {
-    let command = &scheme.commands[command];
+fn ids(random: &mut Random, command: &Command, matrix: &Matrix, gone: &[u16]) -> Vec<u16> {
+    let new = new_ids(random, command, matrix);
     let existing: Vec<u16> = matrix.things().keys().copied().collect();
     let mut ids: Vec<u16> = Vec::new();
     for (place, &kind) in command.parameters.iter().enumerate() {
@@ -76,10 +95,12 @@ fn ids(random: &mut Random, scheme: &Scheme, matrix: &Matrix, command: usize) ->
         let is_new = command.is_new(place as u8);
         let drawn = match random.below(40) {
             0 => 0,
-            1 => id(random),
+            1 if !is_new => id(random),
             2 if !existing.is_empty() => *random.pick(&existing),
             3..=8 if !ids.is_empty() => *random.pick(&ids),
-            _ if is_new => unused(random, matrix),
+            9 if is_new => not_above(random, matrix),
+            10 if is_new && !gone.is_empty() => *random.pick(gone),
+            _ if is_new => new[place],
             _ if !of_type.is_empty() => *random.pick(&of_type),
             _ => id(random),
         };
@@ -88,17 +109,19 @@ fn ids(random: &mut Random, scheme: &Scheme, matrix: &Matrix, command: usize) ->
     ids
 }
 
+/// Those of the new parameters rise; at times two of them change places.
+fn new_ids(random: &mut Random, command: &Command, matrix: &Matrix) -> [u16; 8] {
+    let mut ids = rising(random, command, matrix.highest());
+    let is_new = |&place: &usize| ids[place] != 0;
+    let new: Vec<usize> = (0..ids.len()).filter(is_new).collect();
+    if new.len() > 1 && random.chance(1, 16) {
+        ids.swap(*random.pick(&new), *random.pick(&new));
+    }
+    ids
+}
+
 pub fn of_type(matrix: &Matrix, kind: u8) -> Vec<u16> {
     let things = matrix.things().iter();
     let of_type = things.filter(|(_, &found)| found == kind);
     of_type.map(|(&id, _)| id).collect()
-}
-
-pub fn unused(random: &mut Random, matrix: &Matrix) -> u16 {
-    loop {
-        let id = id(random);
-        if matrix.type_of(id).is_none() {
-            return id;
-        }
-    }
 }

@@ -1,26 +1,29 @@
 //! Requests that take any number of steps, and such as an operation refuses behind tests: of those drawn at random hardly any comes so far.
 
+use super::ids::{not_above, unused};
 use super::places::{operations, Places};
 use super::random::Random;
-use super::requests::{unused, Drawn};
+use super::requests::Drawn;
 use super::stops::{ids, stop_at};
 use crate::convert::{check, MOST_CONVERTED_OPERATIONS};
 use crate::engine::carry_out;
 use crate::matrix::{Matrix, MOST_THINGS};
 use crate::scheme::{Command, Scheme, MOST_OPERATIONS, MOST_TESTS};
 
-/// A request for each command that can have one. The command gets another length and tests that all hold; the matrix, which the first request meets,
-/// gets more things.
+/// A request for each command that can have one, from any of them on. The command gets another length and tests that all hold; the matrix, which the
+/// first request meets, gets more things.
 pub fn steps(random: &mut Random, scheme: &mut Scheme, matrix: &mut Matrix) -> Vec<Drawn> {
     // A scheme that converts still does.
     let most_operations = match check(scheme) {
         0 => MOST_CONVERTED_OPERATIONS,
         _ => MOST_OPERATIONS.into(),
     };
-    add_things(random, scheme, matrix);
+    let count = scheme.commands.len();
+    let first = random.below(count);
+    add_things(random, scheme, matrix, first);
     let mut matrix = matrix.clone();
     let mut requests = Vec::new();
-    for number in 0..scheme.commands.len() {
+    for number in (first..count).chain(0..first) {
         let mut command = scheme.commands[number].clone();
         let Some(mut ids) = ids(random, &command, &matrix) else {
             continue;
@@ -39,13 +42,16 @@ pub fn steps(random: &mut Random, scheme: &mut Scheme, matrix: &mut Matrix) -> V
     requests
 }
 
-/// Of types that commands name; at times until hardly a seat is free, so that one of several creates comes at 48 things.
-fn add_things(random: &mut Random, scheme: &Scheme, matrix: &mut Matrix) {
+/// Of types that commands name; at times until hardly a seat is free, so that one of several creates comes at 48 things, or just the last one of the
+/// first command's.
+fn add_things(random: &mut Random, scheme: &Scheme, matrix: &mut Matrix, first: usize) {
     let parameters = scheme.commands.iter().map(|command| &command.parameters);
     let named: Vec<u8> = parameters.flatten().copied().collect();
-    let count = match random.chance(1, 2) {
-        true => MOST_THINGS - random.below(4),
-        false => MOST_THINGS.min(matrix.things().len() + 4),
+    let creates = named_by(&scheme.commands[first], CREATE).len();
+    let count = match random.below(4) {
+        0 => MOST_THINGS - random.below(4),
+        1 | 2 => MOST_THINGS + 1 - creates.max(1),
+        _ => MOST_THINGS.min(matrix.things().len() + 4),
     };
     while matrix.things().len() < count {
         let id = unused(random, matrix);
@@ -56,7 +62,7 @@ fn add_things(random: &mut Random, scheme: &Scheme, matrix: &mut Matrix) {
 /// As many tests and operations together as are drawn, if the parameters allow it. Creates and destroys stay; at times only creates do, so that one
 /// of them is the last operation.
 fn change_length(random: &mut Random, scheme: &Scheme, command: &mut Command, most: usize) {
-    let (new, destroyed) = (named(command, CREATE), named(command, DESTROY));
+    let (new, destroyed) = (named_by(command, CREATE), named_by(command, DESTROY));
     let places = Places::of(scheme, &command.parameters, &new);
     let most_tests = usize::from(MOST_TESTS);
     let steps = random.from_to(1, most_tests + most);
@@ -82,15 +88,15 @@ const CREATE: u8 = 3;
 const DESTROY: u8 = 4;
 
 /// The parameters that operations of this code name.
-fn named(command: &Command, code: u8) -> Vec<u8> {
+fn named_by(command: &Command, code: u8) -> Vec<u8> {
     let operations = command.operations.iter();
     let of_code = operations.filter(|operation| operation.code() == code);
     of_code.map(|operation| operation.fields()[2]).collect()
 }
 
-/// 15: one of the creates is of a thing that exists, or of what a create before it has made.
+/// 15: one of the creates is of an id up to the highest; or up to that of a create before it, with which that has become the highest.
 fn create_again(random: &mut Random, command: &Command, ids: &mut [u16], matrix: &Matrix) {
-    let creates = named(command, CREATE);
+    let creates = named_by(command, CREATE);
     if creates.is_empty() {
         return;
     }
@@ -99,16 +105,16 @@ fn create_again(random: &mut Random, command: &Command, ids: &mut [u16], matrix:
     let drawn = random.from_to(0, last);
     let place = *random.pick(&[drawn, last]);
     let before = creates[..place].iter();
-    let mut used: Vec<u16> = before.map(|&parameter| ids[parameter as usize]).collect();
-    used.extend(matrix.things().keys());
-    if !used.is_empty() {
-        ids[creates[place] as usize] = *random.pick(&used);
-    }
+    let mut again: Vec<u16> = before.map(|&parameter| ids[parameter as usize]).collect();
+    // One less than the last of those may be an id that the matrix never had.
+    again.extend(again.last().map(|last| last.max(&2) - 1));
+    again.extend([not_above(random, matrix), not_above(random, matrix)]);
+    ids[creates[place] as usize] = *random.pick(&again);
 }
 
 /// 17: two parameters that are destroyed are one thing, where two have one type.
 fn destroy_again(random: &mut Random, command: &Command, ids: &mut [u16]) {
-    let mut old = named(command, DESTROY);
+    let mut old = named_by(command, DESTROY);
     old.retain(|&parameter| !command.is_new(parameter));
     let kind = |parameter: u8| command.parameters[parameter as usize];
     let mut pairs = Vec::new();

@@ -1,7 +1,8 @@
 //! Requests that a test far behind the first one stops: of those drawn at random hardly any comes so far.
 
+use super::ids::rising;
 use super::random::Random;
-use super::requests::{of_type, unused, Drawn};
+use super::requests::{of_type, Drawn};
 use crate::engine::carry_out;
 use crate::matrix::Matrix;
 use crate::scheme::{Command, Scheme};
@@ -23,13 +24,14 @@ pub fn stops(random: &mut Random, scheme: &mut Scheme, matrix: &Matrix) -> Vec<D
     requests
 }
 
-/// Things of the types and new ids; none where a type has no thing.
+/// Things of the types, and new ids that rise; none where a type has no thing.
 pub fn ids(random: &mut Random, command: &Command, matrix: &Matrix) -> Option<Vec<u16>> {
+    let new = rising(random, command, matrix.highest());
     let mut ids = Vec::new();
     for (place, &kind) in command.parameters.iter().enumerate() {
         let of_type = of_type(matrix, kind);
         ids.push(match command.is_new(place as u8) {
-            true => unused(random, matrix),
+            true => new[place],
             false if of_type.is_empty() => return None,
             false => *random.pick(&of_type),
         });

@@ -12,8 +12,8 @@ pub const KEY_SCHEME: &str = "05 00 01 00 04 03 03 00 02 / \
     0D 00 02 00 02 00 01 01 01 00 00 01 01 01 02 01 01 / \
     11 00 02 00 02 01 02 02 01 01 00 01 00 02 00 00 01 01 03 00 01";
 
-/// Things 5 manager, 9 key, 12 robot; cells [5,9] = 1, [9,12] = 2; written by hand.
-pub const KEY_MATRIX: &str = "02 00 03 00 04 03 / \
+/// Things 5 manager, 9 key, 12 robot; the highest id 12; cells [5,9] = 1, [9,12] = 2; written by hand.
+pub const KEY_MATRIX: &str = "04 00 07 00 04 03 0C 00 / \
     03 00 04 00 05 00 00 / 03 00 04 00 09 00 01 / 03 00 04 00 0C 00 02 / \
     0C 00 05 00 05 00 09 00 01 00 00 00 00 00 00 00 / \
     0C 00 05 00 09 00 0C 00 02 00 00 00 00 00 00 00";
@@ -57,6 +57,7 @@ pub fn carries_out(scheme: &Scheme, matrix: &mut Matrix, command: usize, ids: &[
     assert_eq!(answer, dense.carry_out(scheme, command, ids));
     assert_eq!(*matrix, dense.to_matrix(scheme));
     assert!(answer.number == 0 || *matrix == before);
+    assert!(matrix.highest() >= before.highest());
     (answer.number, answer.test, answer.steps)
 }
 

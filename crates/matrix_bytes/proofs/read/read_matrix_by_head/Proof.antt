@@ -1,8 +1,6 @@
--- `matrix_bytes::read::read_matrix_by_head` meets its contract: 27, then the head, the things and the cells, each where the one before ends.
+-- `matrix_bytes::read::read_matrix_by_head` meets its contract: 27, then the head, and the rest where that ends.
 -- Assumes nothing.
-use Prim.Native.Nat.{_≤_}
 use mathlib.Core.Bool.{true}
-use mathlib.Core.List.{List}
 use mathlib.Core.Path.{_≡_, sym, _∙_}
 use lib.ListN.{length}
 use borrow.Author.Needs.{needs}
@@ -10,25 +8,20 @@ use borrow.Author.Tests.{not-true, not-false}
 use Rattle.laws.proofs.Bools.{from-true}
 use Rattle.matrix_records.proofs.ReadBack.{head-opened, head-read, head-stopped}
 use Rattle.matrix_records.proofs.Trips.{head-sized}
-use Rattle.matrix_records.specs.Content.{ThingRecord}
 use Rattle.model.specs.Accepted.{acceptedHead}
 use Rattle.records.proofs.Trip.{Bytes}
 use Rattle.records.specs.Reading.{got}
-use Rattle.matrix_bytes.specs.Content.{thingsFrom}
-use Rattle.matrix_bytes.proofs.ReadMatrix.{matrix-room, matrix-head, matrix-no-head, matrix-no-things, matrix-done}
-use Rattle.matrix_bytes.proofs.ReadThings.{headRead, thingsRead, things-good, things-bad, things-end}
+use Rattle.matrix_bytes.proofs.ReadMatrix.{matrix-room, matrix-head, matrix-no-head, matrix-rest}
+use Rattle.matrix_bytes.proofs.ReadThings.{headRead, head-few}
 use Rattle.matrix_bytes.proofs.read.read_matrix_by_head.Statement.{statement}
 use Rattle.matrix_bytes.proofs.read.read_matrix_by_head.Tie as tie
 
--- from the things back to the head, to the scheme's head that passed and to the start
+-- from the matrix's head back to the scheme's head that passed, and to the start
 abbrev start : tie.Else2 → tie.Start
 start c = c .before .before .before .before .before
 
 abbrev passed-at : tie.After-known-told → tie.Else2
 passed-at c = c .before .before .before .before
-
-abbrev head-at : tie.After-known-told2 → tie.After-known-told
-head-at c = c .before .before .before .before .before
 
 -- what is known once it has
 ok : (c : tie.Else2) → acceptedHead (start c .args .h) ≡ true
@@ -42,22 +35,8 @@ bytes c = λ i. c .before .before .before .before .shared-slice-known .given i .
 
 -- once the head is read
 head-is : (c : tie.After-known-told) → let a = start (passed-at c) .args in let f = c .before .head .given .0 in
-    headRead (a .s .now) (a .h) ≡ got (f .1 .0) (f .1 .1 .0)
-head-is c = let f = c .before in head-read _ _ _ (f .before .before .read-head .ensures ∙ head-opened _ _ _ _ (from-true (ok (passed-at c)))) _ _ _ (f .head .given .1)
-
--- and once the things are
-things-are : (c : tie.After-known-told2) → let k = head-at c in let a = start (passed-at k) .args in let f = k .before .head .given .0 in
-    let r = c .before .before .before .before in
-    (ts : List ThingRecord) × (thingsRead (a .s .now) (a .h) (f .1 .0) (f .1 .1 .0) ≡ got ts (c .before .answer .given .0 .0)) ×
-    (r .read-things .result .things ≡ thingsFrom ts)
-things-are c = let f = c .before in things-good _ _ (f .before .before .before .read-things .ensures) _ (f .answer .given .1)
-
-inside : (c : tie.After-known-told2) → c .before .answer .given .0 .0 ≤ length (start (passed-at (head-at c)) .args .s .now)
-inside c =
-    let k = head-at c in
-    let p = passed-at k in
-    let (ts, g, t) = things-are c in
-    things-end _ _ (head-sized _ (from-true (ok p))) (bytes p) _ _ (head-is k) ts _ g .2
+    headRead (a .s .now) (a .h) ≡ got (record { count = f .1 .0; highest = f .1 .1 .0 }) (f .1 .1 .1 .0)
+head-is c = let f = c .before in head-read _ _ _ (f .before .before .read-head .ensures ∙ head-opened _ _ _ _ (from-true (ok (passed-at c)))) _ _ _ _ (f .head .given .1)
 
 refused-requires : tie.Need-refused-requires
 refused-requires c κs = search needs
@@ -102,51 +81,22 @@ returns-3 c =
     let e = head-stopped _ _ _ (r .read-head .ensures ∙ head-opened _ _ _ _ (from-true (ok (r .before)))) _ _ _ _ (t .enum-told .given .1) (a .before .number .ensures) (a .at .ensures) in
     matrix-no-head _ _ _ _ (ok (r .before)) (room (r .before)) _ _ _ (c .refused3 .ensures) e
 
-read-things-requires : tie.Need-read-things-requires
-read-things-requires c κs = from-true (ok (passed-at c))
-
-enum-known-answer : tie.Need-enum-known-answer
-enum-known-answer c = search needs
-
-enum-told-2 : tie.Need-enum-told-2
-enum-told-2 c = search needs
-
-number-requires-2 : tie.Need-number-requires-2
-number-requires-2 c κs = search needs
-
-at-requires-2 : tie.Need-at-requires-2
-at-requires-2 c κs = search needs
-
-refused-requires-4 : tie.Need-refused-requires-4
-refused-requires-4 c κs = search needs
-
-returns-4 : tie.Need-returns-4
-returns-4 c =
-    let a = c .before in
-    let t = a .before .before in
-    let r = t .before .before .before in
-    let k = r .before in
+read-rest-requires : tie.Need-read-rest-requires
+read-rest-requires c κs =
+    let k = c .before in
     let p = passed-at k in
-    let e = things-bad _ _ (r .read-things .ensures) _ _ _ _ (t .enum-told2 .given .1) (a .before .number2 .ensures) (a .at2 .ensures) in
-    matrix-no-things _ _ _ _ (ok p) (room p) _ _ _ (c .refused4 .ensures) _ _ (head-is k) e
-
-cast-finish : tie.Need-cast-finish
-cast-finish c = search needs
-
-finish-requires : tie.Need-finish-requires
-finish-requires c κs = let p = passed-at (head-at (c .before)) in (from-true (ok p), inside (c .before), room p)
+    let (few, near) = head-few _ _ (head-sized _ (from-true (ok p))) (bytes p) _ _ (head-is k) in
+    (from-true (ok p), few, near, room p)
 
 same-length : tie.Need-same-length
 same-length c = search needs
 
-returns-5 : tie.Need-returns-5
-returns-5 c =
+returns-4 : tie.Need-returns-4
+returns-4 c =
     let f = c .before .before in
-    let a = f .before .before in
-    let k = head-at a in
+    let k = f .before .before in
     let p = passed-at k in
-    let (ts, g, t) = things-are a in
-    matrix-done _ _ _ _ (ok p) (room p) (bytes p) _ _ (head-is k) ts _ g _ t _ (f .finish .ensures)
+    matrix-rest _ _ _ _ (ok p) (room p) _ _ _ (head-is k) _ (f .read-rest .ensures)
 
 pub read-matrix-by-head-spec : {M : Type 1} → statement M
 read-matrix-by-head-spec =
@@ -164,14 +114,6 @@ read-matrix-by-head-spec =
     at-requires
     refused-requires-3
     returns-3
-    read-things-requires
-    enum-known-answer
-    enum-told-2
-    number-requires-2
-    at-requires-2
-    refused-requires-4
-    returns-4
-    cast-finish
-    finish-requires
+    read-rest-requires
     same-length
-    returns-5)
+    returns-4)

@@ -16,13 +16,13 @@ use Rattle.matrix_bytes.proofs.read.read_things.Statement.{statement}
 use Rattle.matrix_bytes.proofs.read.read_things.Tie as tie
 
 abbrev Inv-loop : tie.InvT-loop
-Inv-loop s at h count n th₀ last₀ p₀ j₀ th last p j =
+Inv-loop s at h highest count n th₀ last₀ p₀ j₀ th last p j =
     (j ≤ count) ×
-    (v : Looped (λ last. inRecord s 16 (λ kind. thing h last)) (λ last t. t .id) count 0 at j last p) ×
-    (th ≡ thingsFrom (v .items))
+    (v : Looped (λ last. inRecord s 16 (λ kind. thing h highest last)) (λ last t. t .id) count 0 at j last p) ×
+    (th ≡ thingsFrom highest (v .items))
 
 abbrev μ-loop : tie.MeasureT-loop
-μ-loop s at h count n th₀ last₀ p₀ j₀ th last p j = count - j
+μ-loop s at h highest count n th₀ last₀ p₀ j₀ th last p j = count - j
 
 -- the head is accepted
 good : (c : tie.At-loop Inv-loop μ-loop) → T (acceptedHead (c .before .before .before .args .h))
@@ -32,7 +32,7 @@ no-things-requires : tie.Need-no-things-requires Inv-loop μ-loop
 no-things-requires c κs = search needs
 
 loop-holds : tie.Need-loop-holds Inv-loop μ-loop
-loop-holds c = (omega arith, looped-none, things-none _ (c .no-things .ensures))
+loop-holds c = (omega arith, looped-none, things-none _ _ (c .no-things .ensures))
 
 read-thing-requires : tie.Need-read-thing-requires Inv-loop μ-loop
 read-thing-requires c κs = search needs
@@ -60,7 +60,7 @@ returns c =
     let a = c .before .before in
     let t = a .before .before in
     let r = t .before .before in
-    let e = thing-stopped _ _ _ (r .read-thing .ensures ∙ thing-opened _ _ _ _ (good (r .before .before)) _) _ _ _ _ (t .enum-told .given .1) (a .before .number .ensures) (a .at .ensures) in
+    let e = thing-stopped _ _ _ (r .read-thing .ensures ∙ thing-opened _ _ _ _ (good (r .before .before)) _ _) _ _ _ _ (t .enum-told .given .1) (a .before .number .ensures) (a .at .ensures) in
     c .refused .ensures ∙ rw (c .before .no-things2 .ensures, looped-stop (r .before .before .loop .inv .1) (r .before .loop-test .taken) e)
 
 put-thing-requires : tie.Need-put-thing-requires Inv-loop μ-loop
@@ -77,8 +77,8 @@ loop-again c =
     let f = c .before .before in
     let r = f .before .before in
     let (m, v, et) = r .before .before .loop .inv in
-    let e = thing-read _ _ _ (r .read-thing .ensures ∙ thing-opened _ _ _ _ (good (r .before .before)) _) _ _ _ _ (f .found .given .1) in
-    (omega arith, looped-on v (r .before .loop-test .taken) e, things-on (v .items) _ (v .count) _ et _ _ _ (c .put-thing .ensures))
+    let e = thing-read _ _ _ (r .read-thing .ensures ∙ thing-opened _ _ _ _ (good (r .before .before)) _ _) _ _ _ _ (f .found .given .1) in
+    (omega arith, looped-on v (r .before .loop-test .taken) e, things-on _ (v .items) _ (v .count) _ et _ _ _ (c .put-thing .ensures))
 
 returns-2 : tie.Need-returns-2 Inv-loop μ-loop
 returns-2 c = let (m, v, et) = c .before .loop .inv in rw (et, looped-all v (c .loop-test .left))

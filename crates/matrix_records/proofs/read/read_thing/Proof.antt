@@ -44,8 +44,8 @@ returns-2 c =
     let r = t .before .before in
     record-refused asThingAt _ _ _ _ _ (passing r) _ (r .record-at .ensures) _ _ _ _ (t .enum-told .given .1) (c .before .number .ensures) (c .at .ensures)
 
-add-t15 : tie.Need-add-t15
-add-t15 c = let f = record-found _ _ _ _ _ _ (sym (c .before .before .before .record-at .ensures) ∙ c .before .found .given .1) in search needs
+add-t16 : tie.Need-add-t16
+add-t16 c = let f = record-found _ _ _ _ _ _ (sym (c .before .before .before .record-at .ensures) ∙ c .before .found .given .1) in search needs
 
 body-requires : tie.Need-body-requires
 body-requires c κs = search needs
@@ -73,7 +73,7 @@ read-thing-spec =
     number-requires
     at-requires
     returns-2
-    add-t15
+    add-t16
     body-requires
     thing-of-requires
     returns-3)
