@@ -37,7 +37,7 @@ use Rattle.engine.specs.List.{runOn}
 use Rattle.robot.specs.Library.{Ran, runBytes}
 use Rattle.agreement.specs.Agreement.{leftIn, leftBy}
 use Rattle.agreement.specs.LibraryAgrees.{matrixAfter, Bytes, IsScheme, IsMatrix}
-use Rattle.agreement.specs.NeverAgain.{Run, afterRuns, Call, kept, afterCalls, hasThing, NeverAgain}
+use Rattle.agreement.specs.NeverAgain.{Run, afterRuns, Call, keptImage, imageAfter, hasThing, NeverAgain}
 use Rattle.agreement.proofs.Agreement.{asked, room, ranIf, ran}
 use Rattle.agreement.proofs.EachReply.{accepted}
 use Rattle.agreement.proofs.LibraryCalls.{empty}
@@ -162,8 +162,8 @@ has-known {image = image} h x =
 
 -- ---- calls
 call-later : {scheme image : List ℕ} {s : Scheme} {m : Matrix} → Held scheme image s m → (c : Call) →
-    (end : Matrix) × Held scheme (kept scheme image c) s end × Later m end
-unfolding kept
+    (end : Matrix) × Held scheme (keptImage scheme image c) s end × Later m end
+unfolding keptImage
 call-later {scheme} {image} {s} {m} h c = go (eqb (r .called .number) 0) refl
   where
     r : Ran
@@ -181,8 +181,8 @@ call-later {scheme} {image} {s} {m} h c = go (eqb (r .called .number) 0) refl
     go false e = (m, h, later-same m)
 
 calls-later : {scheme image : List ℕ} {s : Scheme} {m : Matrix} → Held scheme image s m → (cs : List Call) →
-    (end : Matrix) × Held scheme (afterCalls scheme image cs) s end × Later m end
-unfolding afterCalls
+    (end : Matrix) × Held scheme (imageAfter scheme image cs) s end × Later m end
+unfolding imageAfter
 calls-later {m = m} h [] = (m, h, later-same m)
 calls-later h (c ∷ cs) =
     let (mid, h′, a) = call-later h c in
@@ -190,13 +190,13 @@ calls-later h (c ∷ cs) =
     (end, h″, since-then a b)
 
 calls-append : (scheme image : List ℕ) (cs more : List Call) →
-    afterCalls scheme image (cs ++ more) ≡ afterCalls scheme (afterCalls scheme image cs) more
-unfolding afterCalls
+    imageAfter scheme image (cs ++ more) ≡ imageAfter scheme (imageAfter scheme image cs) more
+unfolding imageAfter
 calls-append scheme image [] more = refl
 calls-append scheme image (c ∷ cs) more = calls-append scheme _ cs more
 
 of-calls : (scheme image : List ℕ) (between later : List Call) (x : ℕ) → Bytes scheme → Bytes image → T (hasThing scheme image x) →
-    T (not (hasThing scheme (afterCalls scheme image between) x)) → T (not (hasThing scheme (afterCalls scheme image (between ++ later)) x))
+    T (not (hasThing scheme (imageAfter scheme image between) x)) → T (not (hasThing scheme (imageAfter scheme image (between ++ later)) x))
 of-calls scheme image between later x small small′ there gone =
     let (s, m, h) = reads scheme image small small′ x there in
     let (mid, h′, a) = calls-later h between in

@@ -31,14 +31,14 @@ pub record Call : Type 0 where
   pub answers : List ℕ
   pub out : List ℕ
 
-unfoldable pub kept : List ℕ → List ℕ → Call → List ℕ
-kept scheme image c =
+unfoldable pub keptImage : List ℕ → List ℕ → Call → List ℕ
+keptImage scheme image c =
     let r = runBytes scheme image (c .list) (c .answers) (c .out) in
     cond (eqb (r .called .number) 0) (matrixAfter r) image
 
-unfoldable pub afterCalls : List ℕ → List ℕ → List Call → List ℕ
-afterCalls scheme image [] = image
-afterCalls scheme image (c ∷ cs) = afterCalls scheme (kept scheme image c) cs
+unfoldable pub imageAfter : List ℕ → List ℕ → List Call → List ℕ
+imageAfter scheme image [] = image
+imageAfter scheme image (c ∷ cs) = imageAfter scheme (keptImage scheme image c) cs
 
 -- is x a thing's id in an image, as every call reads it? Where scheme or image can't be read, no id is
 unfoldable pub hasThing : List ℕ → List ℕ → ℕ → Bool
@@ -50,4 +50,4 @@ pub record NeverAgain : Type 0 where
       T (not (known (afterRuns s m (between ++ later) .things) x))
   -- The same of the images that a caller of the library keeps, whatever bytes it began with.
   pub calls : (scheme image : List ℕ) (between later : List Call) (x : ℕ) → Bytes scheme → Bytes image → T (hasThing scheme image x) →
-      T (not (hasThing scheme (afterCalls scheme image between) x)) → T (not (hasThing scheme (afterCalls scheme image (between ++ later)) x))
+      T (not (hasThing scheme (imageAfter scheme image between) x)) → T (not (hasThing scheme (imageAfter scheme image (between ++ later)) x))

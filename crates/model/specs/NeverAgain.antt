@@ -47,7 +47,8 @@ risesFrom k [] = true
 risesFrom k (x ∷ xs) = ltb k x && risesFrom x xs
 
 pub record NeverAgain : Type 0 where
-  -- All ids that a run creates rise, from above the highest that there ever was: so none of them is created twice, nor is one that was there before.
+  -- All ids that a run creates rise, from above the highest that there ever was: so none of them is created twice, and none up to that highest (in an
+  -- accepted matrix, of no thing that was there before) is created at all.
   pub rise : (s : Scheme) (m : State) (qs : List Request) → T (risesFrom (m .things .highest) (createdIn papers s m qs))
   -- An id was a thing's after some requests of a run (after none: at its start), and after more of them it isn't any more. Then it never is again, whatever
   -- is asked later.
