@@ -1,6 +1,6 @@
 /* The outline's key example through the library: the office loads, retires the key, and can't load again; the converted
- * table gives the robot the same answers, in more steps. Then keys are issued and scrapped, and no number is used again.
- * What it prints is example.expected. */
+ * table gives the robot the same answers, in more steps. Then a robot is on hold while it is in the workshop, and keys are
+ * issued and scrapped, and no number is used again. What it prints is example.expected. */
 #include "slushferret.h"
 #include <stdio.h>
 #include <stdlib.h>
@@ -66,12 +66,15 @@ static void must_refuse(const char *what, uint8_t number, uint8_t expected) {
     }
 }
 
-/* the highest id and the cells of a matrix that was written by the library */
+/* the highest id, what is on hold and the cells of a matrix that was written by the library */
 static void print_matrix(const char *whose, const uint8_t *bytes, size_t length) {
     const uint8_t *highest = bytes + SLUSHFERRET_HIGHEST_AT;
     printf("%s, %zu bytes, highest id %d\n", whose, length, highest[0] + 256 * highest[1]);
     for (size_t at = 0; at < length; at += 4 + bytes[at]) {
         const uint8_t *body = bytes + at + 4;
+        if (bytes[at + 2] == SLUSHFERRET_HELD_THING) {
+            printf("  %d is on hold\n", body[0] + 256 * body[1]);
+        }
         if (bytes[at + 2] == SLUSHFERRET_CELL) {
             printf("  [%d, %d] = %d\n", body[0] + 256 * body[1], body[2] + 256 * body[3], body[4]);
         }
@@ -110,6 +113,29 @@ static size_t write_requests(const uint8_t *commands, const uint16_t (*ids)[2], 
     return length;
 }
 
+/* robot 12 is on hold while it is in the workshop, so that nothing is loaded to it; released, it has lost nothing */
+static void run_workshop(uint8_t *after) {
+    static const uint8_t commands[] = {LOAD};
+    static const uint16_t ids[][2] = {{9, 12}};
+    static uint8_t requests[SLUSHFERRET_REQUEST_BYTES];
+    static uint8_t held[SLUSHFERRET_MATRIX_BYTES];
+    static uint8_t released[SLUSHFERRET_MATRIX_BYTES];
+    size_t length = write_requests(commands, ids, 1, requests, sizeof requests);
+
+    size_t held_length = must("hold of 12", slushferret_hold(scheme, sizeof scheme, matrix, sizeof matrix, 12, held, sizeof held,
+                                                             report, SLUSHFERRET_REPORT));
+    print_matrix("robot 12 on hold", held, held_length);
+    run("office, robot 12 on hold", scheme, sizeof scheme, held, held_length, requests, length, after);
+
+    size_t released_length = must("release of 12", slushferret_release(scheme, sizeof scheme, held, held_length, 12, released, sizeof released,
+                                                                       report, SLUSHFERRET_REPORT));
+    print_matrix("robot 12 released", released, released_length);
+    run("office, robot 12 released", scheme, sizeof scheme, released, released_length, requests, length, after);
+
+    must_refuse("hold of 13", slushferret_hold(scheme, sizeof scheme, matrix, sizeof matrix, 13, held, sizeof held, report, SLUSHFERRET_REPORT),
+                SLUSHFERRET_NO_THING);
+}
+
 /* key 31 is issued, scrapped, and can't be issued again; 32 can */
 static void run_keys(uint8_t *after) {
     static const uint8_t commands[] = {ISSUE, SCRAP, ISSUE, ISSUE};
@@ -120,15 +146,11 @@ static void run_keys(uint8_t *after) {
     print_matrix("keys afterwards", after, written);
 }
 
-int main(void) {
-    static uint8_t robot_scheme[SLUSHFERRET_SCHEME_BYTES];
-    static uint8_t robot_matrix[SLUSHFERRET_MATRIX_BYTES];
-    static uint8_t after[SLUSHFERRET_MATRIX_BYTES];
-    static uint8_t requests[3 * SLUSHFERRET_REQUEST_BYTES];
-
+/* the archive is this header's, and the tables can be read */
+static void check(void) {
     if (slushferret_version() != SLUSHFERRET_VERSION) {
         printf("header and archive are of two versions\n");
-        return EXIT_FAILURE;
+        exit(EXIT_FAILURE);
     }
     must("scheme", slushferret_check_scheme(scheme, sizeof scheme, report, SLUSHFERRET_REPORT));
     printf("scheme: %zu bytes read\n", report[SLUSHFERRET_POSITION]);
@@ -136,6 +158,14 @@ int main(void) {
     printf("matrix: %zu bytes read\n", report[SLUSHFERRET_POSITION]);
     must_refuse("scheme without its last byte", slushferret_check_scheme(scheme, sizeof scheme - 1, report, SLUSHFERRET_REPORT),
                 SLUSHFERRET_CUT);
+}
+
+int main(void) {
+    static uint8_t robot_scheme[SLUSHFERRET_SCHEME_BYTES];
+    static uint8_t robot_matrix[SLUSHFERRET_MATRIX_BYTES];
+    static uint8_t after[SLUSHFERRET_MATRIX_BYTES];
+    static uint8_t requests[3 * SLUSHFERRET_REQUEST_BYTES];
+    check();
 
     /* load(9, 12), retire(5, 9), load(9, 12), each behind the one before */
     static const uint8_t commands[] = {LOAD, RETIRE, LOAD};
@@ -160,6 +190,7 @@ int main(void) {
     must_refuse("robot's scheme into 54 bytes", slushferret_convert_scheme(scheme, sizeof scheme, robot_scheme, 54, report, SLUSHFERRET_REPORT),
                 SLUSHFERRET_ROOM);
 
+    run_workshop(after);
     run_keys(after);
     return EXIT_SUCCESS;
 }

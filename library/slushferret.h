@@ -30,7 +30,7 @@ extern "C" {
 
 /* The version of what stands here: it moves when a format or a function's meaning moves. slushferret_version gives that of
  * the archive; a program that compares the two knows that header and archive belong together. */
-#define SLUSHFERRET_VERSION 5
+#define SLUSHFERRET_VERSION 6
 
 /* the slots of a report */
 enum {
@@ -52,8 +52,9 @@ enum {
     SLUSHFERRET_IN_OUTPUT = 5   /* too short */
 };
 
-/* The numbers. 10 to 17 are answers to requests and never a function's number. 27 is of values that no reading gives; it
- * can't come up here, since this library reads all that it is given. */
+/* The numbers. 10 to 18 are answers to requests and never a function's number, but for 12, which slushferret_hold and
+ * slushferret_release give too. 27 is of values that no reading gives; it can't come up here, since this library reads all
+ * that it is given. */
 enum {
     SLUSHFERRET_DONE = 0,
     SLUSHFERRET_CUT = 1,             /* fewer than 4 bytes left for a record's front, or its body runs past the end */
@@ -67,12 +68,13 @@ enum {
     SLUSHFERRET_ROOM = 9,            /* answers or out is too short */
     SLUSHFERRET_NO_COMMAND = 10,     /* no such command */
     SLUSHFERRET_IDS = 11,            /* another number of ids than the command has parameters */
-    SLUSHFERRET_NO_THING = 12,       /* an id 0, or of no thing */
+    SLUSHFERRET_NO_THING = 12,       /* an id 0, or of no thing; of slushferret_hold and slushferret_release too */
     SLUSHFERRET_OTHER_TYPE = 13,     /* a thing of another type */
     SLUSHFERRET_TEST = 14,           /* a test is false; the answer says which */
     SLUSHFERRET_TAKEN = 15,          /* a create of an id that isn't above the highest that the matrix ever had */
     SLUSHFERRET_FULL = 16,           /* a create when 48 things exist */
     SLUSHFERRET_GONE = 17,           /* a destroy of a thing already gone */
+    SLUSHFERRET_ON_HOLD = 18,        /* a thing on hold, for a parameter that the command doesn't create */
     SLUSHFERRET_CHANGES_THINGS = 20, /* conversion: a command creates or destroys */
     SLUSHFERRET_RIGHTS = 21,         /* conversion: more than 32 rights */
     SLUSHFERRET_OPERATIONS = 22,     /* conversion: a command with more than 16 operations */
@@ -86,7 +88,8 @@ enum {
     SLUSHFERRET_THING = 4,
     SLUSHFERRET_CELL = 5,
     SLUSHFERRET_REQUEST = 6,
-    SLUSHFERRET_MATRIX_HEAD = 7
+    SLUSHFERRET_MATRIX_HEAD = 7,
+    SLUSHFERRET_HELD_THING = 8 /* a thing on hold; its body is that of SLUSHFERRET_THING, and it stands where that may */
 };
 
 /* the limits of the outline */
@@ -114,7 +117,7 @@ enum { SLUSHFERRET_HIGHEST_AT = 6 };
 
 /* An answer to a request in the lent buffer: which of its bytes says what. */
 enum {
-    SLUSHFERRET_NUMBER = 0,       /* the number: 0, or 10 to 17 */
+    SLUSHFERRET_NUMBER = 0,       /* the number: 0, or 10 to 18 */
     SLUSHFERRET_TEST_PLACE = 1,   /* with 14 the place, from 0, of the command's first test that doesn't hold; else 255 */
     SLUSHFERRET_STEPS = 2,        /* how many tests were evaluated and operations carried out or refused */
     SLUSHFERRET_ANSWER_BYTES = 3, /* so many bytes an answer */
@@ -135,11 +138,11 @@ uint8_t slushferret_check_matrix(const uint8_t *scheme, size_t scheme_length,
                                  size_t *report, size_t report_length);
 
 /* Carries out a list of requests on a matrix. The answer to each goes to answers, SLUSHFERRET_ANSWER_BYTES each: the number
- * (0, or 10 to 17); with 14 the place, from 0, of the command's first test that doesn't hold, else 255; and the steps. These
+ * (0, or 10 to 18); with 14 the place, from 0, of the command's first test that doesn't hold, else 255; and the steps. These
  * are all tests and operations of the command with 0, the tests up to the false one with 14, all tests and the operations
- * up to the one at fault with 15 to 17 (the one at fault counts too), and 0 with 10 to 13. The bytes of the matrix
+ * up to the one at fault with 15 to 17 (the one at fault counts too), and 0 with 10 to 13 and 18. The bytes of the matrix
  * afterwards go to out; the report says how many answers and how many bytes. A refused request has no effect on the matrix,
- * and the list goes on.
+ * and the list goes on. A created thing isn't on hold, and no request puts a thing on hold or releases it.
  * In this order: the scheme's fault; the matrix's; 9 if answers is too short for all of them; 9 if out is too short for the
  * matrix afterwards. With any of these nothing is stored.
  * A record of the list that can't be read ends the list: what came before it is carried out, answered and written, the
@@ -163,14 +166,31 @@ uint8_t slushferret_convert_scheme(const uint8_t *scheme, size_t scheme_length,
                                    uint8_t *out, size_t out_length,
                                    size_t *report, size_t report_length);
 
-/* The bytes of the converted matrix, given the scheme before its conversion. In this order: the scheme's fault; the
- * matrix's; 20, 21, 22, in the scheme at 0; 9, in the output.
+/* The bytes of the converted matrix, given the scheme before its conversion. What is on hold stays on hold. In this order:
+ * the scheme's fault; the matrix's; 20, 21, 22, in the scheme at 0; 9, in the output.
  * It stores to each byte that it writes once, and to a cell's rights at once, so that out may lie in memory that is slow to
  * write (counted, not proved). */
 uint8_t slushferret_convert_matrix(const uint8_t *scheme, size_t scheme_length,
                                    const uint8_t *matrix, size_t matrix_length,
                                    uint8_t *out, size_t out_length,
                                    size_t *report, size_t report_length);
+
+/* Puts the thing with this id on hold: it keeps its rights and takes part in nothing. A request that names it for a parameter
+ * that the command doesn't create is refused, with 18 where none of 10 to 13 comes first. The bytes of the matrix afterwards
+ * go to out; where the thing is on hold already, they are those of the matrix before. In this order: the scheme's fault; the
+ * matrix's; 12 for an id of no thing, 0 too, in the matrix at 0; 9, in the output. */
+uint8_t slushferret_hold(const uint8_t *scheme, size_t scheme_length,
+                         const uint8_t *matrix, size_t matrix_length, uint16_t id,
+                         uint8_t *out, size_t out_length,
+                         size_t *report, size_t report_length);
+
+/* Releases the thing with this id: it isn't on hold any more. The bytes of the matrix afterwards go to out; where the thing
+ * wasn't on hold, they are those of the matrix before. In this order: the scheme's fault; the matrix's; 12 for an id of no
+ * thing, 0 too, in the matrix at 0; 9, in the output. */
+uint8_t slushferret_release(const uint8_t *scheme, size_t scheme_length,
+                            const uint8_t *matrix, size_t matrix_length, uint16_t id,
+                            uint8_t *out, size_t out_length,
+                            size_t *report, size_t report_length);
 
 /* Writes a request's record at a position of out; report[SLUSHFERRET_WRITTEN] is the position behind it, where the next one goes. 4 for
  * more than 8 ids, in the requests; then 9, in the output. Neither the command nor the ids are checked: a run does. */

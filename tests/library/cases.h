@@ -1,8 +1,8 @@
 /* The cases of tests/compare, from standard input, for the programs here that call the library on them.
  *
  * A case: scheme's length, matrix's, list's, room, 1 if buffers of just the right length are to be tried, number of direct
- * requests (4 bytes each); the bytes of the first three; then each direct request: command (1), ids (1), 2 bytes an id. All
- * little-endian. */
+ * requests, number of marks (4 bytes each); the bytes of the first three; then each direct request: command (1), ids (1), 2
+ * bytes an id; then each mark: id (2), 1 to hold or 0 to release (1). All little-endian. */
 #ifndef CASES_H
 #define CASES_H
 
@@ -30,6 +30,11 @@ struct part {
 struct direct {
     uint8_t command, count;
     uint16_t ids[256];
+};
+
+struct mark {
+    uint16_t id;
+    int held;
 };
 
 static uint8_t heard[65536];
@@ -72,20 +77,20 @@ static void take_part(struct part *part, uint32_t length) {
 }
 
 /* The first three parts, and what else the case's head says: room, whether buffers of just the right length are to be tried,
- * and how many direct requests are to be taken next. */
+ * and how many direct requests and then marks are to be taken next. */
 struct head {
     size_t room;
     int edges;
-    uint32_t direct;
+    uint32_t direct, marks;
 };
 
 static struct head take_case(struct part *scheme, struct part *matrix, struct part *requests) {
-    uint32_t numbers[6];
+    uint32_t numbers[7];
     take(numbers, sizeof numbers);
     take_part(scheme, numbers[0]);
     take_part(matrix, numbers[1]);
     take_part(requests, numbers[2]);
-    return (struct head){numbers[3], numbers[4] == 1, numbers[5]};
+    return (struct head){numbers[3], numbers[4] == 1, numbers[5], numbers[6]};
 }
 
 static void take_direct(struct direct *request) {
@@ -94,6 +99,13 @@ static void take_direct(struct direct *request) {
     request->command = front[0];
     request->count = front[1];
     take(request->ids, 2 * (size_t)front[1]);
+}
+
+static void take_mark(struct mark *mark) {
+    uint8_t bytes[3];
+    take(bytes, sizeof bytes);
+    mark->id = (uint16_t)(bytes[0] + 256 * bytes[1]);
+    mark->held = bytes[2] == 1;
 }
 
 #endif

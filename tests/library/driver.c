@@ -19,7 +19,7 @@ enum {
     REPORT = SLUSHFERRET_REPORT + 2 /* two more numbers than are told stand as a guard */
 };
 
-enum { CHECK_SCHEME = 1, CHECK_MATRIX, CONVERT_SCHEME, CONVERT_MATRIX, RUN, WRITE_REQUEST, INPUTS };
+enum { CHECK_SCHEME = 1, CHECK_MATRIX, CONVERT_SCHEME, CONVERT_MATRIX, RUN, WRITE_REQUEST, HOLD, RELEASE, INPUTS };
 
 struct buffer {
     uint8_t bytes[GUARD + ROOM + GUARD];
@@ -147,6 +147,21 @@ static uint8_t write_request(uint8_t command, const uint16_t *ids, size_t count,
     return number;
 }
 
+/* Holds or releases; `after` gets the matrix afterwards, and stays where that is refused. */
+static size_t set_mark(const struct mark *mark, const struct part *on, size_t lent, struct part *after) {
+    clear_report();
+    uint8_t number = (mark->held ? slushferret_hold : slushferret_release)(scheme.bytes, scheme.length, on->bytes, on->length, mark->id,
+                                                                           out.bytes + GUARD, lent, report, SLUSHFERRET_REPORT);
+    tell_call(mark->held ? HOLD : RELEASE, number);
+    size_t written = report[SLUSHFERRET_WRITTEN];
+    if (after && number == SLUSHFERRET_DONE) {
+        after->length = written <= lent ? written : 0;
+        memcpy(after->bytes, out.bytes + GUARD, after->length);
+    }
+    tell_buffer(&out, lent);
+    return written;
+}
+
 /* ---- a case */
 
 /* with the case's room, with a large buffer, and where that worked with just enough and with one byte less */
@@ -222,6 +237,27 @@ static size_t direct(size_t room, size_t behind, int carried_out) {
     return next;
 }
 
+/* A mark set in the case's matrix: with the case's room, with a large buffer, and where that worked with just enough and with
+ * one byte less; then in the matrix that the marks before it left. */
+static void mark_matrix(size_t room, int edges, int carried_out) {
+    struct mark mark;
+    take_mark(&mark);
+    set_mark(&mark, &matrix, room, 0);
+    size_t written = set_mark(&mark, &matrix, LARGE, 0);
+    if (edges && written > 0) {
+        set_mark(&mark, &matrix, written, 0);
+        set_mark(&mark, &matrix, written - 1, 0);
+    }
+    if (carried_out) {
+        set_mark(&mark, &now, LARGE, &now);
+    }
+}
+
+static void start_again(void) {
+    memcpy(now.bytes, matrix.bytes, matrix.length);
+    now.length = matrix.length;
+}
+
 /* All is read by now; what the library was only lent to read must be as it was read. */
 static void tell_inputs(void) {
     uint64_t all = hash(EMPTY, scheme.bytes, scheme.length);
@@ -243,14 +279,20 @@ static void run_case(void) {
     convert(convert_scheme, room, edges);
     convert(convert_matrix, room, edges);
     int carried_out = run_list(room, edges);
-    memcpy(now.bytes, matrix.bytes, matrix.length);
-    now.length = matrix.length;
+    start_again();
     if (carried_out) {
         run_one_by_one();
     }
     size_t behind = 0;
     for (uint32_t k = 0; k < head.direct; k++) {
         behind = direct(room, behind, carried_out);
+    }
+    start_again();
+    for (uint32_t k = 0; k < head.marks; k++) {
+        mark_matrix(room, edges, carried_out);
+    }
+    if (carried_out) {
+        run(requests.bytes, requests.length, &now, LARGE, LARGE, 0);
     }
     tell_inputs();
 }

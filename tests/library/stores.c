@@ -171,6 +171,10 @@ static void count_case(unsigned number) {
         struct direct request;
         take_direct(&request);
     }
+    for (uint32_t k = 0; k < head.marks; k++) {
+        struct mark mark;
+        take_mark(&mark);
+    }
     if (counted(convert, ROOM) == SLUSHFERRET_DONE) {
         size_t written = report[SLUSHFERRET_WRITTEN];
         conversions++;

@@ -5,7 +5,7 @@ use rights::RightSet;
 use rights::ThingType;
 use things::seat_of;
 ghost use mathlib.Core.Path.{_≡_};
-ghost use mathlib.Core.Bool.{cond, _&&_};
+ghost use mathlib.Core.Bool.{cond, not, _&&_};
 ghost use Prim.Native.Nat.{_<_};
 ghost use lib.Dec.{eqb, leb};
 ghost use lib.ListN.{length, getD};
@@ -30,12 +30,12 @@ fn ids_apart(ids: [u16; Things::LIMIT]) -> bool
     true
 }
 
-// A free seat has type 0; any other has an id not above the highest, and one of the scheme's types.
-fn seat_accepted(h: Head, highest: u16, x: u16, t: ThingType) -> bool
-    ensures { λ r. ⌜ r ≡ cond (eqb x 0) (zeroType t) (leb x highest && typeBelow t (h .types)) ⌝ }
+// A free seat has type 0 and no mark; any other has an id not above the highest, and one of the scheme's types.
+fn seat_accepted(h: Head, highest: u16, x: u16, t: ThingType, mark: bool) -> bool
+    ensures { λ r. ⌜ r ≡ cond (eqb x 0) (zeroType t && not mark) (leb x highest && typeBelow t (h .types)) ⌝ }
 {
     if x == 0 {
-        t.is_zero()
+        t.is_zero() & !mark
     } else {
         (x <= highest) & t.below(h.types)
     }
@@ -47,7 +47,7 @@ fn seats_accepted(h: Head, th: Things) -> bool
     let mut fine = true;
     let mut i: usize = 0;
     while i < Things::LIMIT {
-        fine = fine & seat_accepted(h, th.highest, th.ids[i], th.types[i]);
+        fine = fine & seat_accepted(h, th.highest, th.ids[i], th.types[i], th.marks[i]);
         i += 1;
     }
     fine

@@ -35,7 +35,7 @@ accepted s m e =
     let both : T (acceptedScheme s && acceptedMatrix (s .head) m) = rw e tt in
     (and-left (acceptedScheme s) _ both, and-right (acceptedScheme s) _ both)
 
-same-answer : (o : Outcome Matrix) → answer (paperOutcome o) ≡ answer o
+pub same-answer : (o : Outcome Matrix) → answer (paperOutcome o) ≡ answer o
 unfolding answer paperOutcome
 same-answer (done next) = refl
 same-answer (refused r) = refl

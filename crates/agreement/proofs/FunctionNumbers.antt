@@ -32,6 +32,7 @@ use Rattle.records.specs.declared.Reading.{Reading}
 use Rattle.records.specs.declared.Reading.the-variants as reading
 use Rattle.records.specs.declared.Writing.{Writing}
 use Rattle.records.specs.declared.Writing.the-variants as writing
+use Rattle.robot.specs.Library.{writingBy}
 use Rattle.records.proofs.Faults.{fine, passedRecord}
 use Rattle.command_bytes.specs.Answers.{asHeadAt, asCommandAt, ofHeadAt}
 use Rattle.matrix_records.specs.Content.{Stated, ThingRecord, CellRecord}
@@ -125,7 +126,7 @@ a-matrix false h bytes things cells = tt
 
 -- ---- writing: 9, and the number of what isn't written at all
 module _ (ok : ℕ → Bool) (none-passes : T (ok 0)) (nine : T (ok 9)) where
-  bytes-written : (out : List ℕ) (at : ℕ) (bytes : List ℕ) → T (ok (ofWriting (writeBytes out at bytes .0) .number))
+  pub bytes-written : (out : List ℕ) (at : ℕ) (bytes : List ℕ) → T (ok (ofWriting (writeBytes out at bytes .0) .number))
   unfolding writeBytes
   bytes-written out at bytes = by (leb (at + length bytes) (length out)) _
     where
@@ -138,6 +139,11 @@ module _ (ok : ℕ → Bool) (none-passes : T (ok 0)) (nine : T (ok 9)) where
       T (ok (ofWriting (cond may (writeBytes out at bytes) (writing.Refused k, out) .0) .number))
   if-may true k t out at bytes = bytes-written out at bytes
   if-may false k t out at bytes = t
+
+-- ---- what the library tells of a writing
+pub writing-number : (ok : ℕ → Bool) (other : ℕ) (w : Writing) → T (ok (ofWriting w .number)) → T (ok (writingBy other w .number))
+writing-number ok other (writing.Done next) t = t
+writing-number ok other (writing.Refused k) t = t
 
 -- ---- converting
 module _ (ok : ℕ → Bool) (none-passes : T (ok 0)) (twenty : T (ok 20)) (twenty-one : T (ok 21)) (twenty-two : T (ok 22)) where
@@ -179,7 +185,7 @@ module _ (ok : ℕ → Bool) (none-passes : T (ok 0)) (twenty : T (ok 20)) (twen
     unfolding convertMatrixInto
     matrix-into out s m t = written-by out _ (matrixFault s m) (matrix-fault s m t)
 
--- ---- a step: 10 to 17
+-- ---- a step: 10 to 18
 in-range : (f : ℕ → Bool) (n low k : ℕ) → T (allFrom f low n) → low ≤ k → k < low + n → T (f k)
 unfolding allFrom
 in-range f zero low k t l h = absurd (omega arith)
@@ -189,14 +195,14 @@ in-range f (suc n) low k t l h = by (eqb low k) refl (in-range f n (suc low) k (
     by true e later = subst (λ (j : ℕ). T (f j)) (eqb-true low k e) (and-left (f low) _ t)
     by false e later = later (omega (arith, eqb-false low k e)) (omega arith)
 
-module _ (ok : ℕ → Bool) (none-passes : T (ok 0)) (all-pass : T (allFrom ok 10 8)) where
+module _ (ok : ℕ → Bool) (none-passes : T (ok 0)) (all-pass : T (allFrom ok 10 9)) where
   of-step : (a : Answer) → T (tellsRequest a) → T (ok (number a))
   unfolding tellsRequest number between
   of-step none t = none-passes
   of-step (some r) t =
       let low : 10 ≤ r .number = leb→le 10 (r .number) (and-left (leb 10 (r .number)) _ t) in
-      let high : r .number ≤ 17 = leb→le (r .number) 17 (and-right (leb 10 (r .number)) _ t) in
-      in-range ok 8 10 (r .number) all-pass low (omega arith)
+      let high : r .number ≤ 18 = leb→le (r .number) 18 (and-right (leb 10 (r .number)) _ t) in
+      in-range ok 9 10 (r .number) all-pass low (omega arith)
 
   pub of-each : (s : Scheme) (m : Matrix) (qs : List Request) → T (all (λ (a : Answer). ok (number a)) (answers seats s m qs))
   unfolding all answers

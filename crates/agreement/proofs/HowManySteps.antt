@@ -27,7 +27,7 @@ no-stranger : (a : Answer) → T (tellsRequest a) → number a ≢ 27
 unfolding tellsRequest between number
 no-stranger none t e = absurd (omega arith)
 no-stranger (some r) t e =
-    let high = leb→le (r .number) 17 (and-right (leb 10 (r .number)) _ t) in
+    let high = leb→le (r .number) 18 (and-right (leb 10 (r .number)) _ t) in
     absurd (omega arith)
 
 known : (s : Scheme) → T (acceptedScheme s) → (m : State) (q : Request) → TellsSteps s m q (replyTo s q (answer (step papers s m q)))

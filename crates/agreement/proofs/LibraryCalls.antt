@@ -28,8 +28,8 @@ use Rattle.matrix_bytes.specs.Answers.{readMatrix}
 use Rattle.matrix_bytes.specs.declared.answers.MatrixAnswer.{MatrixAnswer}
 use Rattle.matrix_bytes.proofs.FunctionTrips.{function-trips as matrix-trips}
 use Rattle.convert.specs.Convert.{schemeFault, matrixFault, writtenBy, convertSchemeInto, convertMatrixInto}
-use Rattle.robot.specs.Library.{afterScheme, withScheme, afterMatrix, withMatrix, Wrote, notConverted, wrote, convertSchemeBytes, convertAgainst, convertMatrixBytes}
-use Rattle.agreement.specs.LibraryAgrees.{written, convertedBytes, Bytes, IsScheme, IsMatrix}
+use Rattle.robot.specs.Library.{afterScheme, withScheme, afterMatrix, withMatrix, Wrote, notWritten, wrote, convertSchemeBytes, convertAgainst, convertMatrixBytes}
+use Rattle.agreement.specs.LibraryAgrees.{written, writtenBytes, Bytes, IsScheme, IsMatrix}
 use Rattle.agreement.proofs.Agreement.{Converted, converted}
 use Rattle.agreement.proofs.FaultNumbers.{passedFault, conversion-fault, unless-27}
 use Rattle.agreement.proofs.ReadNumbers.{passed, scheme-only, matrix-only}
@@ -110,14 +110,14 @@ wrote-done out bytes (some k) t w is e = no-zero k t (rw is at e)
 pub both-done : (scheme matrix out out′ : List ℕ) → Bytes scheme → Bytes matrix →
     convertSchemeBytes scheme out .called .number ≡ 0 → convertMatrixBytes scheme matrix out′ .called .number ≡ 0 →
     (s : Scheme) × (m : Matrix) × IsScheme scheme s × IsMatrix matrix s m
-    × Converted s m (convertedBytes (convertSchemeBytes scheme out)) (convertedBytes (convertMatrixBytes scheme matrix out′))
-unfolding convertSchemeBytes convertAgainst convertMatrixBytes convertedBytes convertSchemeInto convertMatrixInto schemeFault matrixFault
+    × Converted s m (writtenBytes (convertSchemeBytes scheme out)) (writtenBytes (convertMatrixBytes scheme matrix out′))
+unfolding convertSchemeBytes convertAgainst convertMatrixBytes writtenBytes convertSchemeInto convertMatrixInto schemeFault matrixFault
 both-done scheme matrix out out′ small small′ e e′ =
-    let (s, is) = scheme-done (notConverted out) (λ w. w .called .number) (λ k x at. refl) scheme small _ e in
-    let first = with-scheme (notConverted out) scheme s (λ s n. wrote 1 (convertSchemeInto out s)) is in
-    let against = with-scheme (notConverted out′) scheme s (λ s n. convertAgainst matrix out′ s) is in
-    let (m, is′) = matrix-done (notConverted out′) (λ w. w .called .number) (λ k x at. refl) matrix small′ s _ (rw against at e′) in
-    let second = against ∙ with-matrix (notConverted out′) matrix s m (λ m k. wrote 1 (convertMatrixInto out′ s m)) is′ in
+    let (s, is) = scheme-done (notWritten out) (λ w. w .called .number) (λ k x at. refl) scheme small _ e in
+    let first = with-scheme (notWritten out) scheme s (λ s n. wrote 1 (convertSchemeInto out s)) is in
+    let against = with-scheme (notWritten out′) scheme s (λ s n. convertAgainst matrix out′ s) is in
+    let (m, is′) = matrix-done (notWritten out′) (λ w. w .called .number) (λ k x at. refl) matrix small′ s _ (rw against at e′) in
+    let second = against ∙ with-matrix (notWritten out′) matrix s m (λ m k. wrote 1 (convertMatrixInto out′ s m)) is′ in
     let done = wrote-done out _ (schemeFault s) (fault-told s (acceptedScheme s)) _ first e in
     let done′ = wrote-done out′ _ (matrixFault s m) (fault-told s (acceptedScheme s && acceptedMatrix (s .head) m)) _ second e′ in
     (s, m, is, is′, converted s m out out′ _ _ _ _ done done′)

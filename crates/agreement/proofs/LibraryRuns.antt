@@ -22,6 +22,7 @@ use Rattle.records.specs.declared.Reading.the-variants as reading
 use Rattle.records.proofs.PlacedLaws.{take-through-placed}
 use Rattle.matrix_bytes.specs.Answers.{readMatrix}
 use Rattle.matrix_bytes.specs.Content.{reseated}
+use Rattle.matrix_bytes.specs.Write.{matrixBytes}
 use Rattle.matrix_bytes.proofs.ReadMatrix.{by-head}
 use Rattle.matrix_bytes.proofs.RoundTrips.{round-trips}
 use Rattle.matrix_bytes.proofs.AcceptedTrip.{accepted-iff-read}
@@ -57,6 +58,15 @@ stored-ended : (count size : ℕ) (e : Reading) → stored (endedBy count size e
 stored-ended count size (reading.Done next) = refl
 stored-ended count size (reading.Refused k at) = refl
 
+-- an accepted matrix's bytes are bytes, and read as the matrix with its things by rising id
+module _ (s : Scheme) (m : Matrix) (ok : T (acceptedScheme s)) (of : T (acceptedMatrix (s .head) m)) where
+  pub bytes-read : IsMatrix (matrixBytes (s .head) m) s (reseated (s .head) m)
+  unfolding readMatrix
+  bytes-read = rw (is-true (acceptedScheme s) ok, round-trips .there s m ok of)
+
+  pub bytes-small : Bytes (matrixBytes (s .head) m)
+  bytes-small = accepted-iff-read .reads s m ok of .1
+
 module _ (s : Scheme) (m : Matrix) (ok : T (acceptedScheme s)) (of : T (acceptedMatrix (s .head) m)) (requests results out : List ℕ) where
   abbrev list : Listed
   list = readList requests
@@ -71,12 +81,12 @@ module _ (s : Scheme) (m : Matrix) (ok : T (acceptedScheme s)) (of : T (accepted
   end-ok = run-kept s m (list .requests) ok of
 
   reads-after : IsMatrix after s (reseated (s .head) end)
-  unfolding bytesAfter readMatrix
-  reads-after = rw (is-true (acceptedScheme s) ok, round-trips .there s end ok end-ok)
+  unfolding bytesAfter
+  reads-after = bytes-read s end ok end-ok
 
   small-after : Bytes after
   unfolding bytesAfter
-  small-after = accepted-iff-read .reads s end ok end-ok .1
+  small-after = bytes-small s end ok end-ok
 
   module _ (inside : length after ≤ length out) where
     stood : take (length after) (placed out 0 after) ≡ after

@@ -18,11 +18,8 @@ use Rattle.model.specs.declared.Scheme.{Scheme}
 use Rattle.records.specs.Bytes.{number2, recordBytes}
 use Rattle.records.specs.Front.{against, recordAt, inRecord}
 use Rattle.records.specs.Writing.{writeRecord}
-use Rattle.records.specs.Told.{ofWriting}
 use Rattle.records.specs.declared.Reading.{Reading}
 use Rattle.records.specs.declared.Reading.the-variants as reading
-use Rattle.records.specs.declared.Writing.{Writing}
-use Rattle.records.specs.declared.Writing.the-variants as writing
 use Rattle.records.proofs.Faults.{only-front}
 use Rattle.command_bytes.specs.Read.{headAt, commandAt}
 use Rattle.command_bytes.specs.Answers.{readHead, readCommand}
@@ -44,7 +41,7 @@ use Rattle.request_list.specs.List.{Listed, readList}
 use Rattle.convert.specs.Convert.{convertSchemeInto, convertMatrixInto}
 use Rattle.robot.specs.Library.{Called, call, notRead, afterScheme, withScheme, afterMatrix, withMatrix, checkScheme, checkAgainst, checkMatrix}
 use Rattle.robot.specs.Library.{Ran, notRun, bytesAfter, endedBy, runMatrix, runAgainst, runBytes}
-use Rattle.robot.specs.Library.{Wrote, writingBy, notConverted, convertSchemeBytes, convertAgainst, convertMatrixBytes, requestBytes}
+use Rattle.robot.specs.Library.{Wrote, notWritten, convertSchemeBytes, convertAgainst, convertMatrixBytes, markAgainst, markBytes, requestBytes}
 use Rattle.robot.proofs.CallLaws.{scheme-accepted}
 use Rattle.robot.proofs.RunLaws.{read-accepted}
 use Rattle.agreement.specs.LibraryAgrees.{Bytes}
@@ -52,7 +49,8 @@ use Rattle.agreement.specs.Numbers.{table, ofARecord, ofARequest, ofAHea
 use Rattle.agreement.specs.Numbers.{oneOf, Numbers}
 use Rattle.agreement.proofs.ReadNumbers.{passed}
 use Rattle.agreement.proofs.ReadNumbers.{head-only, command-only, matrix-head-only, matrix-thing-only, matrix-cell-only, scheme-only, matrix-only, request-only, list-only}
-use Rattle.agreement.proofs.FunctionNumbers.{of-record, of-reading, of-request, of-head, of-command, of-matrix-head, of-thing, of-cell, against-head, any-record, a-matrix, if-may, of-scheme, of-cells, of-each, scheme-into, matrix-into, of-request-on, of-list, of-quiet-list, of-totals}
+use Rattle.agreement.proofs.FunctionNumbers.{of-record, of-reading, of-request, of-head, of-command, of-matrix-head, of-thing, of-cell, against-head, any-record, a-matrix, if-may, of-scheme, of-cells, of-each, scheme-into, matrix-into, of-request-on, of-list, of-quiet-list, of-totals, writing-number}
+use Rattle.agreement.proofs.MarkNumbers.{of-mark, of-mark-in-matrix, of-marked-bytes}
 
 -- ---- what the library reads first, and what it does with that: where each refused reading's number passes, and what follows a reading, all passes
 abbrev schemeRead : List ℕ → SchemeAnswer
@@ -127,17 +125,13 @@ ended-told : (ok : ℕ → Bool) → T (ok 0) → (count written : ℕ) (e : Rea
 ended-told ok t count written (reading.Done next) u = t
 ended-told ok t count written (reading.Refused k at) u = u
 
-writing-number : (ok : ℕ → Bool) (other : ℕ) (w : Writing) → T (ok (ofWriting w .number)) → T (ok (writingBy other w .number))
-writing-number ok other (writing.Done next) t = t
-writing-number ok other (writing.Refused k) t = t
-
 any-passed : (a : Reading) → T (passed (λ k. true) a)
 any-passed (reading.Done next) = tt
 any-passed (reading.Refused k at) = tt
 
 -- ---- the functions: a number that is listed with one passes by computing
 pub numbers : Numbers
-unfolding all any allFrom oneOf table ofARecord ofARequest ofAHead ofACommand ofAScheme ofAPart ofAMatrix ofBoth ofAStep ofConverting readHead readCommand anyRecordAt matrix-records.readHead readThing readCell readMatrix readMatrixByHead writeRecord writeScheme writeMatrix writeMatrixByHead writeRequest checkScheme checkAgainst checkMatrix runAgainst runBytes convertSchemeBytes convertAgainst convertMatrixBytes requestBytes
+unfolding all any allFrom oneOf table ofARecord ofARequest ofAHead ofACommand ofAScheme ofAPart ofAMatrix ofBoth ofAStep ofConverting readHead readCommand anyRecordAt matrix-records.readHead readThing readCell readMatrix readMatrixByHead writeRecord writeScheme writeMatrix writeMatrixByHead writeRequest checkScheme checkAgainst checkMatrix runAgainst runBytes convertSchemeBytes convertAgainst convertMatrixBytes markAgainst markBytes requestBytes
 numbers = record {
   inTable = tt;
   aRecord = λ bytes at kinds. of-record (oneOf ofARecord) tt (recordAt bytes at kinds) (only-front (oneOf ofARecord) tt tt bytes at kinds);
@@ -155,7 +149,7 @@ numbers = record {
       of-matrix-head ok tt (kindAt bytes at) (against (acceptedHead h) read) (against-head ok tt (acceptedHead h) read fine-read);
   aThing = λ bytes at kinds h highest last.
       let ok = oneOf (27 ∷ ofAPart) in
-      let read = inRecord bytes kinds (λ kind. thing h highest last) at in
+      let read = inRecord bytes kinds (thing h highest last) at in
       let fine-read = matrix-thing-only ok tt tt tt tt h bytes kinds tt tt highest last at in
       of-thing ok tt (kindAt bytes at) (against (acceptedHead h) read) (against-head ok tt (acceptedHead h) read fine-read);
   aCell = λ bytes at kinds h th n last.
@@ -176,6 +170,8 @@ numbers = record {
   eachOfAList = of-each (oneOf ofAStep) tt tt;
   list = λ s m bytes out. of-list (oneOf (9 ∷ 27 ∷ ofARequest)) tt tt s m tt tt tt tt bytes tt out;
   quietList = λ s m bytes. of-quiet-list (oneOf (27 ∷ ofARequest)) tt tt s m tt tt tt tt bytes;
+  mark = of-mark (oneOf (12 ∷ [])) tt tt;
+  markInMatrix = of-mark-in-matrix (oneOf (12 ∷ 27 ∷ [])) tt tt tt;
   totals = of-totals (oneOf (27 ∷ [])) tt tt;
   scheme = λ s. of-scheme (oneOf (27 ∷ ofConverting)) tt tt tt tt s (or-right (acceptedScheme s) true tt);
   cells = λ s m. of-cells (oneOf (27 ∷ ofConverting)) tt tt tt tt s m (or-right (acceptedScheme s && acceptedMatrix (s .head) m) true tt);
@@ -208,17 +204,23 @@ numbers = record {
       (λ count written. ended-told ok tt count written (l .ending) (list-only ok tt tt tt tt requests))));
   convertsScheme = λ scheme out small.
       let ok = oneOf (9 ∷ ofAScheme ++ ofConverting) in
-      with-scheme (λ (w : Wrote). ok (w .called .number)) ok (notConverted out) (λ k where′ at t. t) tt tt tt tt tt tt tt scheme _ small
+      with-scheme (λ (w : Wrote). ok (w .called .number)) ok (notWritten out) (λ k where′ at t. t) tt tt tt tt tt tt tt scheme _ small
       (λ s n t. writing-number ok 1 (convertSchemeInto out s .0) (scheme-into ok tt tt tt tt tt out s (or-left (acceptedScheme s) false t)));
   convertsMatrix = λ scheme matrix out small small′.
       let ok = oneOf (9 ∷ ofBoth ++ ofConverting) in
       let good : Wrote → Bool = λ w. ok (w .called .number) in
-      with-scheme good ok (notConverted out) (λ k where′ at t. t) tt tt tt tt tt tt tt scheme _ small
-      (λ s n t. with-matrix good ok (notConverted out) (λ k where′ at u. u) tt tt tt tt tt tt tt s t matrix _
+      with-scheme good ok (notWritten out) (λ k where′ at t. t) tt tt tt tt tt tt tt scheme _ small
+      (λ s n t. with-matrix good ok (notWritten out) (λ k where′ at u. u) tt tt tt tt tt tt tt s t matrix _
       (λ k e. let m : Matrix = matrixIn (matrixRead s matrix) in
       let both : T (acceptedScheme s && acceptedMatrix (s .head) m) = and-both (acceptedScheme s) _ t (matrix-accepted s t matrix small′ k e) in
       writing-number ok 1 (convertMatrixInto out s m .0)
       (matrix-into ok tt tt tt tt tt out s m (or-left (acceptedScheme s && acceptedMatrix (s .head) m) false both))));
+  marks = λ mark scheme matrix id out small small′.
+      let ok = oneOf (9 ∷ 12 ∷ ofBoth) in
+      let good : Wrote → Bool = λ w. ok (w .called .number) in
+      with-scheme good ok (notWritten out) (λ k where′ at t. t) tt tt tt tt tt tt tt scheme _ small
+      (λ s n t. with-matrix good ok (notWritten out) (λ k where′ at u. u) tt tt tt tt tt tt tt s t matrix _
+      (λ k e. of-marked-bytes ok tt tt tt s t (matrixIn (matrixRead s matrix)) (matrix-accepted s t matrix small′ k e) mark id out));
   writesRequest = λ out at command ids.
       writing-number (oneOf (4 ∷ 9 ∷ [])) 3 (writeRequest out at command ids .0)
       (if-may (oneOf (4 ∷ 9 ∷ [])) tt tt (leb (length ids) 8) 4 tt out at (bytesOf command ids));

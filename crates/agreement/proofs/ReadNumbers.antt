@@ -132,9 +132,9 @@ module _ (ok : ℕ → Bool) (three : T (ok 3)) (six : T (ok 6)) (h : Head) wher
       a-number ok three 2 _ (λ highest i. tt))))
 
   module _ (five : T (ok 5)) (seven : T (ok 7)) where
-    thing-body : (highest last : ℕ) → Only ok (matrix-records.thing h highest last)
+    thing-body : (highest last kind : ℕ) → Only ok (matrix-records.thing h highest last kind)
     unfolding matrix-records.thing
-    thing-body highest last =
+    thing-body highest last kind =
         a-number ok three 2 _ (λ id.
         a-check ok three (not (eqb id 0)) 6 six _ (
         a-check ok three (ltb last id) 7 seven _ (
@@ -165,9 +165,9 @@ module _ (ok : ℕ → Bool) (one : T (ok 1)) (two : T (ok 2)) (three : T (ok 3)
   matrix-head-only four = only-record ok one two three s kinds (λ kind. matrix-records.head h) (λ kind. matrix-head-body ok three six h four)
 
   module _ (five : T (ok 5)) (seven : T (ok 7)) where
-    pub matrix-thing-only : (highest last : ℕ) → Only (λ f. ok (f .number)) (inRecord s kinds (λ kind. matrix-records.thing h highest last))
+    pub matrix-thing-only : (highest last : ℕ) → Only (λ f. ok (f .number)) (inRecord s kinds (matrix-records.thing h highest last))
     matrix-thing-only highest last =
-        only-record ok one two three s kinds (λ kind. matrix-records.thing h highest last) (λ kind. thing-body ok three six h five seven highest last)
+        only-record ok one two three s kinds (matrix-records.thing h highest last) (thing-body ok three six h five seven highest last)
 
     pub matrix-cell-only : (things : List ThingRecord) (last : CellRecord) → Only (λ f. ok (f .number)) (inRecord s kinds (λ kind. cell h things last))
     matrix-cell-only things last = only-record ok one two three s kinds (λ kind. cell h things last) (λ kind. cell-body ok three six h five seven things last)
@@ -221,7 +221,7 @@ module _ (ok : ℕ → Bool) (one : T (ok 1)) (two : T (ok 2)) (three : T (ok 3)
       matrixHead = inRecord s 128 (λ kind. matrix-records.head h)
 
       abbrev thingAt : ℕ → ℕ → Reader ℕ Refusal ThingRecord
-      thingAt highest last = inRecord s 16 (λ kind. matrix-records.thing h highest last)
+      thingAt highest last = inRecord s 272 (matrix-records.thing h highest last)
 
       abbrev cellAt : List ThingRecord → CellRecord → Reader ℕ Refusal CellRecord
       cellAt things last = inRecord s 32 (λ kind. cell h things last)
@@ -230,7 +230,7 @@ module _ (ok : ℕ → Bool) (one : T (ok 1)) (two : T (ok 2)) (three : T (ok 3)
       unfolding rest
       matrix-rest-only highest count =
           only-then told (steps (thingAt highest) (λ last t. t .id) count 0) _
-          (only-steps told (thingAt highest) (λ last t. t .id) (matrix-thing-only ok one two three six h s 16 five seven highest) count 0) (λ things.
+          (only-steps told (thingAt highest) (λ last t. t .id) (matrix-thing-only ok one two three six h s 272 five seven highest) count 0) (λ things.
           only-then told (toEnd s (cellAt things) (λ last c. c) (length s) start) _
           (to-end (cellAt things) (λ last c. c) (matrix-cell-only ok one two three six h s 32 five seven things) (length s) start) (λ cells i. tt))
 

@@ -1,6 +1,6 @@
 -- Demand 3 of the functions (`Agreement`) and of the robots' library (`LibraryAgrees`); which test stopped a request, and how many steps it took, of both
--- (`WhichTest`, `HowManySteps`), and that no id is created twice (`NeverAgain`); the numbers that each function can give (`Numbers`); the starred examples
--- of the outline, all in one statement (`Starred`); and wrong programs that these catch (`WrongPrograms`).
+-- (`WhichTest`, `HowManySteps`), that no id is created twice (`NeverAgain`), and that a thing on hold takes part in nothing (`OnHold`); the numbers that each
+-- function can give (`Numbers`); the starred examples of the outline, all in one statement (`Starred`); and wrong programs that these catch (`WrongPrograms`).
 pub mod Replies
 pub mod Agreement
 pub mod LibraryAgrees
@@ -8,6 +8,7 @@ pub mod EachReply
 pub mod WhichTest
 pub mod HowManySteps
 pub mod NeverAgain
+pub mod OnHold
 pub mod Numbers
 pub mod Starred
 pub mod WrongPrograms

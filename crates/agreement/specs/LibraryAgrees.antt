@@ -35,9 +35,9 @@ written c = getD (c .report) 3 0
 abbrev pub besidesWritten : Called → List ℕ × List ℕ
 besidesWritten c = (take 3 (c .report), drop 4 (c .report))
 
--- the bytes that a conversion wrote, and those of the matrix that a run left
-unfoldable pub convertedBytes : Wrote → List ℕ
-convertedBytes w = take (written (w .called)) (w .out)
+-- the bytes that a conversion wrote, or a mark; and those of the matrix that a run left
+unfoldable pub writtenBytes : Wrote → List ℕ
+writtenBytes w = take (written (w .called)) (w .out)
 
 unfoldable pub matrixAfter : Ran → List ℕ
 matrixAfter r = take (written (r .called)) (r .out)
@@ -113,4 +113,4 @@ pub record CallsAgree (scheme matrix robotScheme robotMatrix : List ℕ) : Type 
 abbrev pub LibraryAgrees : Type 0
 LibraryAgrees = (scheme matrix out out′ : List ℕ) → Bytes scheme → Bytes matrix →
     convertSchemeBytes scheme out .called .number ≡ 0 → convertMatrixBytes scheme matrix out′ .called .number ≡ 0 →
-    CallsAgree scheme matrix (convertedBytes (convertSchemeBytes scheme out)) (convertedBytes (convertMatrixBytes scheme matrix out′))
+    CallsAgree scheme matrix (writtenBytes (convertSchemeBytes scheme out)) (writtenBytes (convertMatrixBytes scheme matrix out′))

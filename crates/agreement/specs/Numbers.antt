@@ -1,4 +1,4 @@
--- Which numbers each function can give that reads or writes a record or more, carries out requests, counts or converts: no others than those listed
+-- Which numbers each function can give that reads or writes a record or more, carries out requests, marks, counts or converts: no others than those listed
 -- with it, and each of these is in the outline's table of refusal numbers.
 -- Assumes nothing.
 use Prim.Native.Nat.{ℕ}
@@ -30,14 +30,15 @@ use Rattle.request_bytes.specs.Told.{ofRequestReading}
 use Rattle.request_list.specs.List.{readList}
 use Rattle.engine.specs.Step.{requestOn}
 use Rattle.engine.specs.List.{runOn, runQuietly, ofRun}
+use Rattle.hold.specs.Marking.{markThing, asMarked, markedBy, ofMarking}
 use Rattle.totals.specs.Totals.{totalsOf, ofTotals}
 use Rattle.convert.specs.Convert.{convertedScheme, convertedCells, convertSchemeInto, convertMatrixInto, ofConversion}
-use Rattle.robot.specs.Library.{checkScheme, checkMatrix, runBytes, convertSchemeBytes, convertMatrixBytes, requestBytes}
+use Rattle.robot.specs.Library.{checkScheme, checkMatrix, runBytes, convertSchemeBytes, convertMatrixBytes, markBytes, requestBytes}
 use Rattle.agreement.specs.LibraryAgrees.{Bytes}
 
--- the outline's table; 0 is success
+-- the outline's table, and 18 for a thing on hold; 0 is success
 unfoldable pub table : List ℕ
-table = 1 ∷ 2 ∷ 3 ∷ 4 ∷ 5 ∷ 6 ∷ 7 ∷ 8 ∷ 9 ∷ 10 ∷ 11 ∷ 12 ∷ 13 ∷ 14 ∷ 15 ∷ 16 ∷ 17 ∷ 20 ∷ 21 ∷ 22 ∷ 27 ∷ []
+table = 1 ∷ 2 ∷ 3 ∷ 4 ∷ 5 ∷ 6 ∷ 7 ∷ 8 ∷ 9 ∷ 10 ∷ 11 ∷ 12 ∷ 13 ∷ 14 ∷ 15 ∷ 16 ∷ 17 ∷ 18 ∷ 20 ∷ 21 ∷ 22 ∷ 27 ∷ []
 
 -- those of a reading: of a record, a request, a scheme's head, a scheme, a matrix
 unfoldable pub ofARecord : List ℕ
@@ -68,7 +69,7 @@ ofBoth = 1 ∷ 2 ∷ 3 ∷ 4 ∷ 5 ∷ 6 ∷ 7 ∷ 8 ∷ []
 
 -- of carrying out a request, and of converting
 unfoldable pub ofAStep : List ℕ
-ofAStep = 10 ∷ 11 ∷ 12 ∷ 13 ∷ 14 ∷ 15 ∷ 16 ∷ 17 ∷ []
+ofAStep = 10 ∷ 11 ∷ 12 ∷ 13 ∷ 14 ∷ 15 ∷ 16 ∷ 17 ∷ 18 ∷ []
 
 unfoldable pub ofConverting : List ℕ
 ofConverting = 20 ∷ 21 ∷ 22 ∷ []
@@ -110,6 +111,9 @@ pub record Numbers : Type 0 where
   pub eachOfAList : (s : Scheme) (m : Matrix) (qs : List Request) → T (all (λ (a : Answer). oneOf ofAStep (number a)) (answers seats s m qs))
   pub list : (s : Scheme) (m : Matrix) (bytes out : List ℕ) → Gives (9 ∷ 27 ∷ ofARequest) (ofRun (runOn s m bytes out .ran .answer) .number)
   pub quietList : (s : Scheme) (m : Matrix) (bytes : List ℕ) → Gives (27 ∷ ofARequest) (ofRun (runQuietly s m bytes .0 .answer) .number)
+  -- ---- hold and release: of things alone, and of a matrix
+  pub mark : (mark : Bool) (x : ℕ) (th : Things) → Gives (12 ∷ []) (ofMarking (asMarked th (markThing mark x th) .answer) .number)
+  pub markInMatrix : (mark : Bool) (s : Scheme) (th : Things) (cells : List ℕ) (x : ℕ) → Gives (12 ∷ 27 ∷ []) (ofMarking (markedBy mark s th cells x .answer) .number)
   -- ---- totals and conversion
   pub totals : (s : Scheme) (m : Matrix) → Gives (27 ∷ []) (ofTotals (totalsOf s m) .number)
   pub scheme : (s : Scheme) → Gives (27 ∷ ofConverting) (ofConversion (convertedScheme s .answer) .number)
@@ -124,4 +128,6 @@ pub record Numbers : Type 0 where
   pub convertsScheme : (scheme out : List ℕ) → Bytes scheme → Gives (9 ∷ ofAScheme ++ ofConverting) (convertSchemeBytes scheme out .called .number)
   pub convertsMatrix : (scheme matrix out : List ℕ) → Bytes scheme → Bytes matrix →
       Gives (9 ∷ ofBoth ++ ofConverting) (convertMatrixBytes scheme matrix out .called .number)
+  pub marks : (mark : Bool) (scheme matrix : List ℕ) (id : ℕ) (out : List ℕ) → Bytes scheme → Bytes matrix →
+      Gives (9 ∷ 12 ∷ ofBoth) (markBytes mark scheme matrix id out .called .number)
   pub writesRequest : (out : List ℕ) (at command : ℕ) (ids : List ℕ) → Gives (4 ∷ 9 ∷ []) (requestBytes out at command ids .called .number)

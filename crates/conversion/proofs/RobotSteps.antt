@@ -39,7 +39,7 @@ NotByOperation r = between 15 17 (r .number) ≡ false
 
 early : EarlyRefusals NotByOperation
 unfolding between
-early = record { noCommand = refl; otherCount = refl; places = record { noThing = refl; otherType = refl } }
+early = record { noCommand = refl; otherCount = refl; places = record { noThing = refl; otherType = refl; onHold = refl } }
 
 module _ {M : Type 0} (view : View M) (types : List ThingType) (ids : List ℕ) where
   all-done : (p : ℕ) (os : List Operation) → T (keepsAll os) → (m : M) → answer (operateAll view types ids p os m) ≡ none

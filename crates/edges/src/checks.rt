@@ -1,7 +1,11 @@
-// The tasks 60 to 64, which only ask of the scheme and the matrix: what is accepted, the totals, what the checks of form look up, and seats.
+// The tasks 60 to 65, which only ask of the scheme and the matrix: what is accepted, the totals, what the checks of form look up, seats, and a mark that is
+// set in a copy of the things.
 use crate::case;
 use crate::print;
+use crate::sum;
 use crate::values;
+use hold::Marked;
+use hold::Marking;
 use model::Scheme;
 use model::Things;
 use rights::Parameter;
@@ -54,6 +58,21 @@ fn seats(n: usize, x: u16, th: Things) {
     print::number(things::seat_of(ids, x) as u64);
 }
 
+// What a mark is answered; the things afterwards.
+pub(crate) fn marked(m: Marked) -> Things {
+    let answer = m.answer;
+    match answer {
+        Marking::Done => print::number(0),
+        Marking::Refused(x) => print::byte(x),
+    }
+    m.things
+}
+
+fn mark(b: &[u8], th: Things, cells: &[u64]) {
+    let new = marked(hold::mark_thing(th, case::two_at(b, 0), case::one_at(b, 2) == 1));
+    print::number(sum::matrix(new, cells));
+}
+
 pub(crate) fn task(case: &[u8], s: Scheme, th: Things, cells: &[u64]) {
     let b = case::bytes(case);
     let at = case::position(case);
@@ -62,6 +81,7 @@ pub(crate) fn task(case: &[u8], s: Scheme, th: Things, cells: &[u64]) {
         61 => command(at, s),
         62 => count(s, th, cells),
         63 => form(b, at, s),
+        65 => mark(b, th, cells),
         _ => seats(at, case::two_at(b, 0), th),
     }
 }

@@ -1,7 +1,8 @@
-// The tasks that read a position of the case's bytes, 70 to 75: requests, records, bodies and fields.
+// The tasks that read a position of the case's bytes, 70 to 75: requests, records, bodies and fields. And 76: the id that all of them name.
 use crate::case;
 use crate::print;
 use crate::sum;
+use lines::IdWord;
 use records::Field;
 use records::Kinds;
 use request_bytes::RequestReading;
@@ -70,6 +71,13 @@ fn fields(b: &[u8], at: usize) {
     );
 }
 
+fn id(word: &[u8]) {
+    match lines::id_in(word) {
+        IdWord::Id(x) => print::numbers(&[1, x as u64]),
+        IdWord::Other => print::number(0),
+    }
+}
+
 pub(crate) fn task(case: &[u8]) {
     let b = case::bytes(case);
     let at = case::position(case);
@@ -79,6 +87,7 @@ pub(crate) fn task(case: &[u8]) {
         72 => print::number(request_list::count_requests(b) as u64),
         73 => record(b, at),
         74 => body(b, at),
+        76 => id(b),
         _ => fields(b, at),
     }
 }

@@ -1,5 +1,6 @@
-// The tasks 10 to 17, which change the things or are lent the cells: a matrix is read, set, copied or converted, and a request planned.
+// The tasks 10 to 19, which change the things or are lent the cells: a matrix is read, set, copied, converted or marked, and a request planned.
 use crate::case;
+use crate::checks::marked;
 use crate::plans;
 use crate::print;
 use matrix_bytes::MatrixAnswer;
@@ -48,7 +49,13 @@ fn alone(task: u8, b: &[u8], at: usize, s: Scheme, th: Things) -> Things {
         14 => things::no_things(),
         15 => plans::task(b, at, s, th),
         17 => set_highest(th, at),
-        _ => things::put_thing(th, at, case::two_at(b, 0), ThingType(case::one_at(b, 2))),
+        _ => things::put_thing(
+            th,
+            at,
+            case::two_at(b, 0),
+            ThingType(case::one_at(b, 2)),
+            case::one_at(b, 3) == 1,
+        ),
     }
 }
 
@@ -61,6 +68,8 @@ pub(crate) fn task(case: &[u8], s: Scheme, th: Things, cells: &mut [u64]) -> Thi
         11 => read(true, b, s, th, cells),
         12 => copy(b, at, th, cells),
         13 => convert(s, th, cells),
+        18 => marked(hold::hold(s, th, cells, case::two_at(b, 0))),
+        19 => marked(hold::release(s, th, cells, case::two_at(b, 0))),
         _ => alone(task, b, at, s, th),
     }
 }

@@ -44,6 +44,7 @@ fn things(th: Things) -> u64 {
     while i < 48 {
         let t = th.types[i];
         sum = add(add(sum, th.ids[i] as u64), t.0 as u64);
+        sum = add(sum, th.marks[i] as u64);
         i += 1;
     }
     sum

@@ -110,7 +110,7 @@ pub(crate) fn all_accepted(s: Scheme, th: Things, cells: &[u64]) -> bool
     matrix_accepted(h, th, cells)
 }
 
-// One request: 27 before all other checks, then 10 to 17. Whether refused early or late, it then has no effect at all.
+// One request: 27 before all other checks, then 10 to 18. Whether refused early or late, it then has no effect at all.
 pub fn request(s: Scheme, th: Things, cells: &mut [u64], command: u8, ids: &[u16]) -> Stepped
     ensures { λ r. ⌜ _≡_ {A = Stepped × List ℕ} (r, now (cells .exit)) (requestOn s (matrixOf th (now (cells .entry))) command (now (ids .entry))) ⌝ }
 {

@@ -1,4 +1,9 @@
 // Numbers and lines as text, put in a lent buffer; what is past its end is dropped. Each function gives the position behind what it put, for the next one.
+// And the id that a word names.
+mod ids;
+
+pub use ids::IdWord;
+pub use ids::id_in;
 ghost use Prim.Native.Nat.{ℕ};
 ghost use mathlib.Core.Path.{_≡_};
 ghost use mathlib.Core.List.{List, [], _∷_, _++_};

@@ -25,7 +25,7 @@ use Rattle.records.specs.Bytes.{littleEndian, recordBytes}
 use Rattle.records.proofs.Trip.{Bytes}
 use Rattle.records.proofs.Below.{Below, below-bytes, below-append, below-number, below-record}
 use Rattle.matrix_records.specs.Content.{Stated, ThingRecord, CellRecord}
-use Rattle.matrix_records.specs.Write.{headBytes, thingBytes, cellBytes}
+use Rattle.matrix_records.specs.Write.{headBytes, thingBytes, thingKind, cellBytes}
 use Rattle.matrix_records.proofs.Trips.{Sized}
 use Rattle.matrix_bytes.specs.Content.{thingsOf, cellsOf}
 use Rattle.matrix_bytes.specs.Write.{matrixBytes}
@@ -50,8 +50,8 @@ module _ (h : Head) (z : Sized h) where
   things-below last [] r = tt
   things-below last (t ∷ ts) r =
       let l : t .thing .type .0 < 256 = omega (arith, r .0 .typed, z .types) in
-      below-append (recordBytes 4 (thingBytes t)) (things ts)
-      (below-record 4 (thingBytes t) (below-append (littleEndian 2 (t .id)) (t .thing .type .0 ∷ []) (below-number 2 _) (l, tt)))
+      below-append (recordBytes (thingKind t) (thingBytes t)) (things ts)
+      (below-record (thingKind t) (thingBytes t) (below-append (littleEndian 2 (t .id)) (t .thing .type .0 ∷ []) (below-number 2 _) (l, tt)))
       (things-below (t .id) ts (r .1))
 
   matrix-below : (m : Matrix) → Held h m → Bytes (matrixBytes h m)
@@ -87,6 +87,7 @@ held-tidy : (h : Head) (m : Matrix) → Held h m → Tidy m
 held-tidy h m ok = record {
   idRoom = ok .things .idRoom;
   typeRoom = ok .things .typeRoom;
+  markRoom = ok .things .markRoom;
   cellRoom = ok .cells .room;
   apart = ok .things .apart;
   free = λ i l e. seat-free h (m .things) _ _ (ok .things .seat i l) e;
@@ -199,6 +200,7 @@ module _ (h : Head) (m read : Matrix) (tidy : Tidy m) (ok : Held h read) (same :
     things = record {
       idRoom = tidy .idRoom;
       typeRoom = tidy .typeRoom;
+      markRoom = tidy .markRoom;
       reach = rw same-highest at (ok .things .reach);
       apart = tidy .apart;
       seat = λ i l. by-thing (T (acceptedSeat h (m .things) (id i) (thingIn (m .things) i))) i (λ e. free-seat h (m .things) _ _ (tidy .free i l e) e) (found-seat i);

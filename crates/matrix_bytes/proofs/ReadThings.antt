@@ -2,11 +2,11 @@
 -- on. Assumes nothing.
 use Prim.Native.Nat.{ℕ, _≤_}
 use native.Mathlib.Omega.{arith}
+use mathlib.Core.Bool.{Bool}
 use mathlib.Core.List.{List, [], _∷_, _++_}
 use mathlib.Core.Path.{_≡_, sym, ap, _∙_}
 use lib.ListN.{length}
 use Rattle.rights.specs.declared.ThingType.{ThingType}
-use Rattle.model.specs.Request.{ofType}
 use Rattle.model.specs.Seats.{noThings, withHighest, putThing}
 use Rattle.model.specs.declared.Head.{Head}
 use Rattle.model.specs.declared.Things.{Things}
@@ -20,7 +20,7 @@ use Rattle.records.proofs.Trip.{Bytes}
 use Rattle.matrix_records.specs.Content.{Stated, ThingRecord}
 use Rattle.matrix_records.specs.Read.{head, thing}
 use Rattle.matrix_records.proofs.Trips.{Sized, head-record}
-use Rattle.matrix_records.proofs.ReadBack.{refusal}
+use Rattle.matrix_records.proofs.ReadBack.{refusal, thingWithMark}
 use Rattle.matrix_bytes.specs.Content.{seatAll, thingsFrom}
 use Rattle.matrix_bytes.specs.Inner.Parts.{asThings}
 use Rattle.matrix_bytes.specs.declared.answers.MatrixAnswer.{MatrixAnswer}
@@ -34,8 +34,9 @@ unfolding thingsFrom seatAll
 things-none highest th e = rw e
 
 pub things-on : (highest : ℕ) (items : List ThingRecord) (j : ℕ) → length items ≡ j → (th : Things) → th ≡ thingsFrom highest items →
-    (id : ℕ) (of : ThingType) (new : Things) → new ≡ putThing j id (ofType of) th → new ≡ thingsFrom highest (items ++ record { id = id; thing = ofType of } ∷ [])
-things-on highest items j n th e id of new en = rw (en, e, ← n) (sym (from-next highest items (record { id = id; thing = ofType of })))
+    (id : ℕ) (of : ThingType) (mark : Bool) (new : Things) → new ≡ putThing j id (record { type = of; onHold = mark }) th →
+    new ≡ thingsFrom highest (items ++ thingWithMark id of mark ∷ [])
+things-on highest items j n th e id of mark new en = rw (en, e, ← n) (sym (from-next highest items (thingWithMark id of mark)))
 
 -- ---- from the answer back
 module _ (highest : ℕ) (m : Read ℕ Refusal (List ThingRecord)) (r : MatrixAnswer) (er : r ≡ asThings highest m) where
@@ -64,7 +65,7 @@ module _ (s : List ℕ) (h : Head) where
   headRead = inRecord s 128 (λ kind. head h) 0
 
   abbrev pub thingsRead : ℕ → ℕ → Reader ℕ Refusal (List ThingRecord)
-  thingsRead highest count = steps (λ last. inRecord s 16 (λ kind. thing h highest last)) (λ last t. t .id) count 0
+  thingsRead highest count = steps (λ last. inRecord s 272 (thing h highest last)) (λ last t. t .id) count 0
 
   module _ (z : Sized h) (g : Bytes s) where
     pub head-few : (st : Stated) (at : ℕ) → headRead ≡ got st at → (st .count ≤ 48) × (at ≤ length s)

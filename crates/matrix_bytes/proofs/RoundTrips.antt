@@ -25,7 +25,7 @@ use Rattle.records.specs.Front.{inRecord}
 use Rattle.records.proofs.Trip.{Bytes, Stand, bind-got, got-same, stand-split, stand-join}
 use Rattle.matrix_records.specs.Content.{Stated, ThingRecord, CellRecord}
 use Rattle.matrix_records.specs.Read.{head, thing, cell, start}
-use Rattle.matrix_records.specs.Write.{headBytes, thingBytes, cellBytes}
+use Rattle.matrix_records.specs.Write.{headBytes, thingBytes, thingKind, cellBytes}
 use Rattle.matrix_records.proofs.Trips.{Sized, head-sized, head-record}
 use Rattle.matrix_bytes.specs.Content.{thingsOf, cellsOf, matrixFrom, reseated}
 use Rattle.matrix_bytes.specs.Read.{toEnd, rest, matrix}
@@ -85,7 +85,7 @@ same-content h m ok =
 
 -- the bytes of each
 abbrev pub things : List ThingRecord → List ℕ
-things = eachBytes (λ t. recordBytes 4 (thingBytes t))
+things = eachBytes (λ t. recordBytes (thingKind t) (thingBytes t))
 
 abbrev pub cells : List CellRecord → List ℕ
 cells = eachBytes (λ c. recordBytes 5 (cellBytes c))
@@ -115,7 +115,7 @@ module _ (h : Head) (z : Sized h) where
   Written s m next = Held h m × (s ≡ matrixBytes h m) × (next ≡ length s)
 
   written : (s : List ℕ) → Bytes s → (st : Stated) (i j k : ℕ) (ts : List ThingRecord) (cs : List CellRecord) → inRecord s 128 (λ kind. head h) 0 ≡ got st i →
-      steps (λ last. inRecord s 16 (λ kind. thing h (st .highest) last)) (λ last t. t .id) (st .count) 0 i ≡ got ts j →
+      steps (λ last. inRecord s 272 (thing h (st .highest) last)) (λ last t. t .id) (st .count) 0 i ≡ got ts j →
       toEnd s (λ last. inRecord s 32 (λ kind. cell h ts last)) (λ last c. c) (length s) start j ≡ got cs k → Written s (matrixFrom (st .highest) ts cs) k
   unfolding matrixBytes matrixFrom
   written s g st i j k ts cs e1 e2 e3 =
@@ -136,7 +136,7 @@ module _ (h : Head) (z : Sized h) where
   unfolding matrix rest
   back s m next g e =
       let (st, i, e1, f1) = bind-got (inRecord s 128 (λ kind. head h) 0) _ e in
-      let (ts, j, e2, f2) = bind-got (steps (λ last. inRecord s 16 (λ kind. thing h (st .highest) last)) (λ last t. t .id) (st .count) 0 i) _ f1 in
+      let (ts, j, e2, f2) = bind-got (steps (λ last. inRecord s 272 (thing h (st .highest) last)) (λ last t. t .id) (st .count) 0 i) _ f1 in
       let (cs, k, e3, f3) = bind-got (toEnd s (λ last. inRecord s 32 (λ kind. cell h ts last)) (λ last c. c) (length s) start j) _ f2 in
       got-same (Written s) f3 (written s g st i j k ts cs e1 e2 e3)
 

@@ -23,16 +23,21 @@ use Rattle.matrix_records.specs.Read.{thingWith}
 use Rattle.matrix_records.proofs.Listed.{ids, seated-length, seated-at, seated-ids}
 use Rattle.matrix_bytes.specs.Content.{seatAll, thingsFrom}
 
--- both arrays of a memory are as long as there are seats
+-- the arrays of a memory are as long as there are seats
 pub record Room (th : Things) : Type 0 where
   pub ids : length (th .ids) ≡ 48
   pub types : length (th .types) ≡ 48
+  pub marks : length (th .marks) ≡ 48
 
 -- ---- one thing put at a seat
 module _ (p x : ℕ) (t : Thing) (th : Things) (r : Room th) where
   put-room : Room (putThing p x t th)
   unfolding putThing
-  put-room = record { ids = length-set (th .ids) p x ∙ r .ids; types = length-set (th .types) p (t .type) ∙ r .types }
+  put-room = record {
+    ids = length-set (th .ids) p x ∙ r .ids;
+    types = length-set (th .types) p (t .type) ∙ r .types;
+    marks = length-set (th .marks) p (t .onHold) ∙ r .marks;
+  }
 
   put-at : p < 48 → (i : ℕ) → i < 48 → recordIn (putThing p x t th) i ≡ getD (set (seated th) p (record { id = x; thing = t })) i nobody
   unfolding recordIn putThing thingIn
@@ -46,6 +51,7 @@ module _ (p x : ℕ) (t : Thing) (th : Things) (r : Room th) where
             getD-set-same (seated th) p _ nobody (rw (seated-length th) l),
             getD-set-same (th .ids) p x 0 (rw (r .ids) l),
             getD-set-same (th .types) p (t .type) noType (rw (r .types) l),
+            getD-set-same (th .marks) p (t .onHold) false (rw (r .marks) l),
           )
       by false q =
           let n = eqb-false i p q in
@@ -54,6 +60,7 @@ module _ (p x : ℕ) (t : Thing) (th : Things) (r : Room th) where
             seated-at th i h,
             getD-set-other (th .ids) p i x 0 n,
             getD-set-other (th .types) p i (t .type) noType n,
+            getD-set-other (th .marks) p i (t .onHold) false n,
           )
 
   put-seated : p < 48 → seated (putThing p x t th) ≡ set (seated th) p (record { id = x; thing = t })
@@ -79,14 +86,14 @@ abbrev start : ℕ → Things
 start highest = withHighest highest noThings
 
 none-room : (highest : ℕ) → Room (start highest)
-none-room highest = record { ids = length-replicate {A = ℕ} 48 0; types = length-replicate 48 noType }
+none-room highest = record { ids = length-replicate {A = ℕ} 48 0; types = length-replicate 48 noType; marks = length-replicate 48 false }
 
 none-seated : (highest : ℕ) → seated (start highest) ≡ replicate 48 nobody
 unfolding recordIn thingIn
 none-seated highest =
     ext-getD nobody _ _ (seated-length (start highest) ∙ sym (length-replicate 48 nobody))
     (λ i h. let k : i < 48 = rw (seated-length (start highest)) at h in
-    seated-at (start highest) i k ∙ rw (getD-replicate {A = ℕ} 48 i 0 0 k, getD-replicate 48 i noType noType k) (sym (getD-replicate 48 i nobody nobody k)))
+    seated-at (start highest) i k ∙ rw (getD-replicate {A = ℕ} 48 i 0 0 k, getD-replicate 48 i noType noType k, getD-replicate 48 i false false k) (sym (getD-replicate 48 i nobody nobody k)))
 
 drop-replicate : {A : Type 0} (i n : ℕ) (a : A) → drop i (replicate n a) ≡ replicate (n - i) a
 drop-replicate zero n a = rw sub-zero

@@ -22,7 +22,7 @@ use Rattle.records.proofs.Trip.{trip-as, trip-steps}
 use Rattle.records.proofs.BytesLaws.{length-record}
 use Rattle.matrix_records.specs.Content.{ThingRecord, CellRecord}
 use Rattle.matrix_records.specs.Read.{thing, cell, above, start}
-use Rattle.matrix_records.specs.Write.{thingBytes, cellBytes}
+use Rattle.matrix_records.specs.Write.{thingBytes, thingKind, cellBytes}
 use Rattle.matrix_records.proofs.Trips.{Sized, UpToOk, CellOk, NextOk, thing-record, cell-record}
 use Rattle.matrix_bytes.specs.Read.{toEnd}
 use Rattle.matrix_bytes.proofs.Seating.{UpTo}
@@ -41,7 +41,7 @@ ok-each h highest last [] r u = tt
 ok-each h highest last (t ∷ ts) r u = ((r .0, u .0), ok-each h highest (t .id) ts (r .1) (u .1))
 
 pub things-trip : (h : Head) → Sized h → (s : List ℕ) (highest count : ℕ) →
-    Trip (input s) (steps (λ last. inRecord s 16 (λ kind. thing h highest last)) (λ last t. t .id) count 0) (eachBytes (λ t. recordBytes 4 (thingBytes t)))
+    Trip (input s) (steps (λ last. inRecord s 272 (thing h highest last)) (λ last t. t .id) count 0) (eachBytes (λ t. recordBytes (thingKind t) (thingBytes t)))
     (λ ts. Rising h 0 ts × UpTo highest ts × (length ts ≡ count))
 things-trip h z s highest count =
     trip-as (trip-steps (thing-record h z s highest) (λ last t. t .id) count 0) (λ ts o. refl)

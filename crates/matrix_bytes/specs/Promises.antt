@@ -30,6 +30,7 @@ pub record RoundTrips : Type 0 where
 pub record Tidy (m : Matrix) : Type 0 where
   pub idRoom : length (m .things .ids) ≡ 48
   pub typeRoom : length (m .things .types) ≡ 48
+  pub markRoom : length (m .things .marks) ≡ 48
   pub cellRoom : length (m .cells) ≡ 2304
   pub apart : (i j : ℕ) → i < 48 → j < 48 → getD (m .things .ids) i 0 ≢ 0 → getD (m .things .ids) i 0 ≡ getD (m .things .ids) j 0 → i ≡ j
   pub free : (i : ℕ) → i < 48 → getD (m .things .ids) i 0 ≡ 0 → T (zeroThing (thingIn (m .things) i))

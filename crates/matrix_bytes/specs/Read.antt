@@ -18,10 +18,10 @@ module _ {A S : Type 0} (s : List ℕ) (p : S → Reader ℕ Refusal A) (next : 
   toEnd zero st = done []
   toEnd (suc fuel) st = λ at. cond (eqb at (length s)) (got [] at) ((p st >>= λ a. toEnd fuel (next st a) >>= λ xs. done (a ∷ xs)) at)
 
--- ---- what stands behind a head: so many things (kind 4) with ids up to the highest, then cells (kind 5) to the end
+-- ---- what stands behind a head: so many things (kind 4, or 8 for one on hold) with ids up to the highest, then cells (kind 5) to the end
 unfoldable pub rest : Head → ℕ → ℕ → List ℕ → Reader ℕ Refusal Matrix
 rest h highest count s = do
-  things ← steps (λ last. inRecord s 16 (λ kind. thing h highest last)) (λ last t. t .id) count 0
+  things ← steps (λ last. inRecord s 272 (thing h highest last)) (λ last t. t .id) count 0
   cells ← toEnd s (λ last. inRecord s 32 (λ kind. cell h things last)) (λ last c. c) (length s) start
   done (matrixFrom highest things cells)
 

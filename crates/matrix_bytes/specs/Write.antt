@@ -12,13 +12,13 @@ use Rattle.records.specs.Bytes.{recordBytes, eachBytes}
 use Rattle.records.specs.Writing.{writeBytes}
 use Rattle.records.specs.declared.Writing.{Writing}
 use Rattle.records.specs.declared.Writing.the-variants.{Refused}
-use Rattle.matrix_records.specs.Write.{headBytes, thingBytes, cellBytes}
+use Rattle.matrix_records.specs.Write.{headBytes, thingBytes, thingKind, cellBytes}
 use Rattle.matrix_bytes.specs.Content.{thingsOf, cellsOf}
 
 unfoldable pub matrixBytes : Head → Matrix → List ℕ
 matrixBytes h m =
     recordBytes 7 (headBytes (h .rights) (record { count = length (thingsOf m); highest = m .things .highest }))
-    ++ eachBytes (λ t. recordBytes 4 (thingBytes t)) (thingsOf m)
+    ++ eachBytes (λ t. recordBytes (thingKind t) (thingBytes t)) (thingsOf m)
     ++ eachBytes (λ c. recordBytes 5 (cellBytes c)) (cellsOf h m)
 
 unfoldable pub writeMatrix : List ℕ → Scheme → Matrix → Writing × List ℕ

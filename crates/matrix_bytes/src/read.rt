@@ -35,7 +35,7 @@ fn refused(number: u8, at: usize, things: Things) -> MatrixAnswer
 // So many things with ids up to the highest, each behind the one before it, in the seats from the first on.
 fn read_things(s: &[u8], at: usize, h: Head, highest: u16, count: u8) -> MatrixAnswer
     requires { ⌜ T (acceptedHead h) ⌝ }
-    ensures { λ r. ⌜ r ≡ asThings highest (steps (λ last. inRecord (now (s .entry)) 16 (λ kind. thing h highest last)) (λ last t. t .id) count 0 at) ⌝ }
+    ensures { λ r. ⌜ r ≡ asThings highest (steps (λ last. inRecord (now (s .entry)) 272 (thing h highest last)) (λ last t. t .id) count 0 at) ⌝ }
 {
     let n = count as usize;
     let mut th = things::no_things();
@@ -44,17 +44,11 @@ fn read_things(s: &[u8], at: usize, h: Head, highest: u16, count: u8) -> MatrixA
     let mut p = at;
     let mut j: usize = 0;
     while j < n {
-        let found = matrix_records::read_thing(s, p, Kinds(16), h, highest, last);
-        let ThingAt::Good {
-            kind: _,
-            id,
-            of,
-            next,
-        } = found
-        else {
+        let found = matrix_records::read_thing(s, p, Kinds(272), h, highest, last);
+        let ThingAt::Good { kind, id, of, next } = found else {
             return refused(found.number(), found.at(), things::no_things());
         };
-        th = things::put_thing(th, j, id, of);
+        th = things::put_thing(th, j, id, of, kind == 8);
         last = id;
         p = next;
         j += 1;

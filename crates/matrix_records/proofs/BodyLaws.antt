@@ -15,7 +15,6 @@ use Rattle.rights.specs.Numberings.{type}
 use Rattle.laws.specs.Check.{isSome}
 use Rattle.laws.proofs.Bools.{from-true}
 use Rattle.model.specs.Scheme.{isSubject, noType}
-use Rattle.model.specs.Request.{ofType}
 use Rattle.model.specs.Seats.{find, thingIn}
 use Rattle.model.specs.declared.Head.{Head}
 use Rattle.model.specs.declared.Things.{Things}
@@ -81,37 +80,37 @@ module _ (b : List ℕ) (h : Head) where
           head-whole l = rw (en, eq-eqb n (h .rights) same, ec, eh, none-left b 4 l)
 
 -- ---- a thing
-module _ (b : List ℕ) (h : Head) (highest last : ℕ) where
-  pub thing-no-id : (k : ℕ) → number 2 b ≡ fault k → whole (thing h highest last) b ≡ fault k
+module _ (b : List ℕ) (h : Head) (highest last kind : ℕ) where
+  pub thing-no-id : (k : ℕ) → number 2 b ≡ fault k → whole (thing h highest last kind) b ≡ fault k
   unfolding whole thing
   thing-no-id k e = rw e
 
   module _ (id : ℕ) (ei : number 2 b ≡ got id (drop 2 b)) where
-    pub thing-zero : id ≡ 0 → whole (thing h highest last) b ≡ fault 6
+    pub thing-zero : id ≡ 0 → whole (thing h highest last kind) b ≡ fault 6
     unfolding whole thing
     thing-zero z = rw (ei, eq-eqb id 0 z)
 
     module _ (nz : id ≡ 0 → ⊥) where
-      pub thing-below : id ≤ last → whole (thing h highest last) b ≡ fault 7
+      pub thing-below : id ≤ last → whole (thing h highest last kind) b ≡ fault 7
       unfolding whole thing
       thing-below l = rw (ei, ne-eqb id 0 nz, le-ltb last id l)
 
       module _ (up : last < id) where
-        pub thing-above : highest < id → whole (thing h highest last) b ≡ fault 6
+        pub thing-above : highest < id → whole (thing h highest last kind) b ≡ fault 6
         unfolding whole thing
         thing-above l = rw (ei, ne-eqb id 0 nz, lt-ltb last id up, lt-leb id highest l)
 
         module _ (low : id ≤ highest) where
-          pub thing-no-type : (k : ℕ) → field 0 (h .types) 5 (drop 2 b) ≡ fault k → whole (thing h highest last) b ≡ fault k
+          pub thing-no-type : (k : ℕ) → field 0 (h .types) 5 (drop 2 b) ≡ fault k → whole (thing h highest last kind) b ≡ fault k
           unfolding whole thing
           thing-no-type k e = rw (ei, ne-eqb id 0 nz, lt-ltb last id up, le-leb id highest low, e)
 
           module _ (t : ℕ) (et : field 0 (h .types) 5 (drop 2 b) ≡ got t (drop 3 b)) where
-            pub thing-more : 3 < length b → whole (thing h highest last) b ≡ fault 3
+            pub thing-more : 3 < length b → whole (thing h highest last kind) b ≡ fault 3
             unfolding whole thing
             thing-more l = rw (ei, ne-eqb id 0 nz, lt-ltb last id up, le-leb id highest low, et, one-off b 3 l)
 
-            pub thing-whole : length b ≤ 3 → whole (thing h highest last) b ≡ got (record { id = id; thing = ofType (type t) }) []
+            pub thing-whole : length b ≤ 3 → whole (thing h highest last kind) b ≡ got (record { id = id; thing = record { type = type t; onHold = eqb kind 8 } }) []
             unfolding whole thing
             thing-whole l = rw (ei, ne-eqb id 0 nz, lt-ltb last id up, le-leb id highest low, et, none-left b 3 l)
 

@@ -5,19 +5,19 @@ use Prim.Native.Nat.{ℕ, _^_, _≤_, _<_}
 use native.Mathlib.Omega.{arith}
 use mathlib.Core.Bool.{Bool, true, false, not}
 use mathlib.Core.List.{List, []}
-use mathlib.Core.Path.{_≡_, ap, _∙_}
-use lib.Dec.{T, eqb, ltb}
+use mathlib.Core.Path.{_≡_, refl, ap, _∙_}
+use lib.Dec.{T, eqb, leb, ltb}
 use lib.ListN.{length}
+use Rattle.rights.specs.Numberings.{type}
 use Rattle.rights.specs.declared.ThingType.{ThingType}
 use Rattle.laws.specs.Check.{isSome}
-use Rattle.model.specs.Request.{ofType}
 use Rattle.model.specs.Accepted.{acceptedHead}
 use Rattle.model.specs.declared.Head.{Head}
 use Rattle.model.specs.declared.Things.{Things}
 use Rattle.laws.proofs.Bools.{is-true}
 use Rattle.laws.proofs.Differ.{constructors-differ}
 use Rattle.records.specs.Bytes.{part}
-use Rattle.records.specs.Reading.{Read, got, fault, Reader, _>>=_, _>>_, done, check, number}
+use Rattle.records.specs.Reading.{Read, got, fault, Reader, _>>=_, _>>_, done, check, number, field}
 use Rattle.records.specs.Front.{Refusal, inRecord}
 use Rattle.records.proofs.Trip.{never, got-same, bind-got}
 use Rattle.records.proofs.TripRecord.{in-record-back}
@@ -44,7 +44,7 @@ module _ (s : List ℕ) (at kinds : ℕ) (h : Head) (ok : T (acceptedHead h)) wh
   head-opened = rw (is-true (acceptedHead h) ok)
 
   pub thing-opened : (highest last : ℕ) →
-      readThing s at kinds h highest last ≡ asThingAt (kindAt s at) (inRecord s kinds (λ kind. thing h highest last) at)
+      readThing s at kinds h highest last ≡ asThingAt (kindAt s at) (inRecord s kinds (thing h highest last) at)
   unfolding readThing
   thing-opened highest last = rw (is-true (acceptedHead h) ok)
 
@@ -72,15 +72,61 @@ module _ (kind : ℕ) (m : Read ℕ Refusal Stated) (r : HeadAt) (er : r ≡ asH
           let y : w ≡ f .at = ew ∙ ap headPlace er in
           rw (x, y)
 
--- ---- a thing
-module _ (kind : ℕ) (m : Read ℕ Refusal ThingRecord) (r : ThingAt) (er : r ≡ asThingAt kind m) where
-  pub thing-read : (k id : ℕ) (of : ThingType) (next : ℕ) → r ≡ thing-at.Good k id of next → m ≡ got (record { id = id; thing = ofType of }) next
-  thing-read k id of next e = go m er
-    where
-      go : (m : Read ℕ Refusal ThingRecord) → r ≡ asThingAt kind m → m ≡ got (record { id = id; thing = ofType of }) next
-      go (got t j) er = let x : id ≡ t .id = cc in let y : of ≡ t .thing .type = cc in let z : next ≡ j = cc in rw (x, y, z)
-      go (fault f) er = constructors-differ (cc)
+-- ---- what holds of all that a reader gives
+module _ {I F A : Type 0} where
+  abbrev Gives : Reader I F A → (A → Type 0) → Type 0
+  Gives p P = (i : I) (a : A) (j : I) → p i ≡ got a j → P a
 
+  gives-done : (P : A → Type 0) (c : A) → P c → Gives (done c) P
+  gives-done P c h i a j e = got-same (λ a j. P a) e h
+
+  gives-check : {P : A → Type 0} (b : Bool) (k : F) {q : Reader I F A} → (T b → Gives q P) → Gives (check b k >> q) P
+  gives-check true k f i a j e = f tt i a j e
+  gives-check false k f i a j e = never e
+
+  gives-then : {B : Type 0} {P : A → Type 0} (p : Reader I F B) {q : B → Reader I F A} → ((b : B) → Gives (q b) P) → Gives (p >>= q) P
+  gives-then p {q} f i a j e = let m = bind-got (p i) q e in f (m .0) (m .1) a j (m .3)
+
+-- ---- a thing
+
+abbrev pub thingWithMark : ℕ → ThingType → Bool → ThingRecord
+thingWithMark id of mark = record { id = id; thing = record { type = of; onHold = mark } }
+
+-- its mark is told by its record's kind alone
+MarkedBy : ℕ → ThingRecord → Type 0
+MarkedBy kind t = t .thing .onHold ≡ eqb kind 8
+
+thing-marked : (h : Head) (highest last kind : ℕ) → Gives (thing h highest last kind) (MarkedBy kind)
+unfolding thing MarkedBy
+thing-marked h highest last kind =
+    gives-then (number 2) λ id. gives-check (not (eqb id 0)) 6 λ z. gives-check (ltb last id) 7 λ o. gives-check (leb id highest) 6 λ l.
+    gives-then (field 0 (h .types) 5) λ t. gives-done (MarkedBy kind) (thingWithMark id (type t) (eqb kind 8)) refl
+
+module _ (s : List ℕ) (at kinds : ℕ) (h : Head) (highest last : ℕ) where
+  abbrev readAs : Read ℕ Refusal ThingRecord
+  readAs = inRecord s kinds (thing h highest last) at
+
+  kind-marks : {t : ThingRecord} {j : ℕ} → readAs ≡ got t j → MarkedBy (kindAt s at) t
+  kind-marks {t} e =
+      let (kind, start, len, f, r, next) = in-record-back s kinds (thing h highest last) at e in
+      rw (← (f .its-kind)) (thing-marked h highest last kind (part s start len) t [] r)
+
+  pub thing-read : (r : ThingAt) → r ≡ asThingAt (kindAt s at) readAs → (k id : ℕ) (of : ThingType) (next : ℕ) → r ≡ thing-at.Good k id of next →
+      readAs ≡ got (thingWithMark id of (eqb k 8)) next
+  thing-read r er k id of next e = go readAs refl
+    where
+      go : (m : Read ℕ Refusal ThingRecord) → readAs ≡ m → m ≡ got (thingWithMark id of (eqb k 8)) next
+      go (got t j) em =
+          let same : r ≡ thing-at.Good (kindAt s at) (t .id) (t .thing .type) j = rw em at er in
+          let x : id ≡ t .id = cc in
+          let y : of ≡ t .thing .type = cc in
+          let z : next ≡ j = cc in
+          let w : k ≡ kindAt s at = cc in
+          let v : t .thing .onHold ≡ eqb (kindAt s at) 8 = unfold MarkedBy in kind-marks em in
+          rw (x, y, z, w, ← v)
+      go (fault f) em = let same : r ≡ thing-at.Refused (f .number) (f .at) = rw em at er in constructors-differ (cc)
+
+module _ (kind : ℕ) (m : Read ℕ Refusal ThingRecord) (r : ThingAt) (er : r ≡ asThingAt kind m) where
   pub thing-stopped : (k q v w : ℕ) → r ≡ thing-at.Refused k q → v ≡ ofThing r .number → w ≡ thingPlace r → m ≡ fault (refusal v w)
   thing-stopped k q v w e ev ew = go m er
     where
@@ -116,21 +162,6 @@ module _ (n : ℕ) (ids : List ℕ) (kind : ℕ) (m : Read ℕ Refusal CellRecor
           let x : v ≡ f .number = ev ∙ ap (λ (a : CellAt). ofCell a .number) er in
           let y : w ≡ f .at = ew ∙ ap cellPlace er in
           rw (x, y)
-
--- ---- what holds of all that a reader gives
-module _ {I F A : Type 0} where
-  abbrev Gives : Reader I F A → (A → Type 0) → Type 0
-  Gives p P = (i : I) (a : A) (j : I) → p i ≡ got a j → P a
-
-  gives-done : (P : A → Type 0) (c : A) → P c → Gives (done c) P
-  gives-done P c h i a j e = got-same (λ a j. P a) e h
-
-  gives-check : {P : A → Type 0} (b : Bool) (k : F) {q : Reader I F A} → (T b → Gives q P) → Gives (check b k >> q) P
-  gives-check true k f i a j e = f tt i a j e
-  gives-check false k f i a j e = never e
-
-  gives-then : {B : Type 0} {P : A → Type 0} (p : Reader I F B) {q : B → Reader I F A} → ((b : B) → Gives (q b) P) → Gives (p >>= q) P
-  gives-then p {q} f i a j e = let m = bind-got (p i) q e in f (m .0) (m .1) a j (m .3)
 
 -- ---- a cell that was read: both its things are known
 abbrev BothIn : List ThingRecord → CellRecord → Type 0

@@ -2,28 +2,33 @@
 -- Assumes nothing.
 use Prim.Native.Nat.{ℕ, _^_, _≤_, _<_}
 use native.Mathlib.Omega.{arith}
-use mathlib.Core.Bool.{not}
-use mathlib.Core.Logic.{_≢_}
+use native.Mathlib.Nat.{zero-add}
+use mathlib.Core.Bool.{Bool, true, false, not, cond, _||_}
+use mathlib.Core.Logic.{_≢_, _⊎_, inl, inr}
 use mathlib.Core.Option.{Option, none, some}
 use mathlib.Core.List.{List}
-use mathlib.Core.Path.{refl, sym}
+use mathlib.Core.Path.{_≡_, refl, sym, ap}
 use lib.Dec.{T, leb→le, le→leb, eqb, leb, ltb, eqb→eq, eqb-refl, ltb→lt, lt→ltb}
 use lib.Pow.{pow-mono}
 use mir.Facts.{eqb-no, no-eqb}
 use Rattle.rights.specs.Numberings.{type}
 use Rattle.laws.specs.Check.{isSome, passes, between}
-use Rattle.model.specs.Accepted.{headFault}
-use Rattle.model.specs.Request.{Thing, ofType}
+use Rattle.model.specs.Accepted.{headFault, allFrom}
+use Rattle.model.proofs.HeldLaws.{from-at}
+use borrow.Author.Tests.{eqb-true}
+use Rattle.model.specs.Request.{Thing}
 use Rattle.model.specs.declared.Head.{Head}
 use Rattle.laws.proofs.Bools.{and-left, and-right, must-pass, first-pass, then-pass}
 use Rattle.records.specs.Bytes.{recordBytes, littleEndian}
-use Rattle.records.specs.Front.{inRecord}
+use Rattle.rights.specs.Sets.{has}
+use Rattle.records.specs.Front.{allowed, inRecord}
+use Rattle.records.proofs.RecordAt.{allowed-small}
 use Rattle.records.proofs.Trip.{Trip, body, input, trip-as, trip-done, trip-check, trip-then, trip-last}
 use Rattle.records.proofs.TripFields.{trip-number, trip-field}
-use Rattle.records.proofs.TripRecord.{trip-kind}
+use Rattle.records.proofs.TripRecord.{trip-record, trip-kind}
 use Rattle.matrix_records.specs.Content.{Stated, ThingRecord, CellRecord}
 use Rattle.matrix_records.specs.Read.{head, thing, cell, thingWith, isRow, above}
-use Rattle.matrix_records.specs.Write.{headBytes, thingBytes, cellBytes}
+use Rattle.matrix_records.specs.Write.{headBytes, thingBytes, thingKind, cellBytes}
 
 -- what a matrix's bytes need of its scheme's head, which a head that passes gives
 pub record Sized (h : Head) : Type 0 where
@@ -60,6 +65,43 @@ pub record CellOk (h : Head) (ts : List ThingRecord) (c : CellRecord) : Type 0 w
 abbrev pub NextOk : Head → List ThingRecord → CellRecord → CellRecord → Type 0
 NextOk h ts last c = T (above last (c .row) (c .column)) × CellOk h ts c
 
+-- ---- the two kinds of a thing's record, 4 and 8, as a set
+
+unfoldable one-of-two : ℕ → Bool
+one-of-two kind = not (allowed 272 kind) || eqb kind 4 || eqb kind 8
+
+-- a kind in a set is below 16, so all are looked through
+all-of-two : T (allFrom one-of-two 0 16)
+unfolding allFrom one-of-two allowed has
+all-of-two = tt
+
+two-kinds : (kind : ℕ) → T (allowed 272 kind) → (kind ≡ 4) ⊎ (kind ≡ 8)
+unfolding one-of-two
+two-kinds kind t =
+    go (allowed 272 kind) (eqb kind 4) (eqb kind 8) refl refl t (rw (zero-add kind) at (from-at one-of-two 0 16 all-of-two kind (allowed-small 272 kind t)))
+  where
+    go : (a b c : Bool) → eqb kind 4 ≡ b → eqb kind 8 ≡ c → T a → T (not a || b || c) → (kind ≡ 4) ⊎ (kind ≡ 8)
+    go true true c e f t u = inl (eqb-true kind 4 e)
+    go true false true e f t u = inr (eqb-true kind 8 f)
+    go true false false e f t u = absurd u
+    go false b c e f t u = absurd t
+
+kind-marked : (t : Thing) → T (allowed 272 (cond (t .onHold) 8 4)) × (t .onHold ≡ eqb (cond (t .onHold) 8 4) 8)
+unfolding allowed has
+kind-marked t = go (t .onHold)
+  where
+    go : (b : Bool) → T (allowed 272 (cond b 8 4)) × (b ≡ eqb (cond b 8 4) 8)
+    go true = (tt, refl)
+    go false = (tt, refl)
+
+-- the kind that was read is the one that is written
+marked-kind : (kind : ℕ) (b : Bool) → T (allowed 272 kind) → b ≡ eqb kind 8 → cond b 8 4 ≡ kind
+marked-kind kind b t e = go (two-kinds kind t)
+  where
+    go : (kind ≡ 4) ⊎ (kind ≡ 8) → cond b 8 4 ≡ kind
+    go (inl f) = rw (e, f)
+    go (inr f) = rw (e, f)
+
 pub row-thing : (h : Head) (t : Option Thing) → T (isRow h t) → T (isSome t)
 unfolding isRow isSome
 row-thing h none t = t
@@ -79,16 +121,21 @@ module _ (h : Head) (z : Sized h) where
       (λ st o. search arith)
       (λ st o. let same = eqb-refl (h .rights) in search arith)
 
-  thing-trip : (highest last : ℕ) → Trip body (thing h highest last) thingBytes (UpToOk h highest last)
+  thing-trip : (highest last kind : ℕ) →
+      Trip body (thing h highest last kind) thingBytes (λ t. UpToOk h highest last t × (t .thing .onHold ≡ eqb kind 8))
   unfolding thing thingBytes
-  thing-trip highest last =
+  thing-trip highest last kind =
       trip-as
       (trip-then (trip-number 2) (λ t. t .id) (λ x t l o. cc) λ x l.
       trip-check (not (eqb x 0)) 6 λ nz. trip-check (ltb last x) 7 λ over. trip-check (leb x highest) 6 λ below.
-      trip-last (trip-field 0 (h .types) 5) (λ v. record { id = x; thing = ofType (type v) }) (λ t. t .thing .type .0) λ v l. refl)
+      trip-last (trip-field 0 (h .types) 5) (λ v. record { id = x; thing = record { type = type v; onHold = eqb kind 8 } }) (λ t. t .thing .type .0) λ v l. refl)
       (λ t o. refl)
-      (λ t o. search (arith, ltb→lt, leb→le))
-      (λ t o. let nz : t .id ≢ 0 = omega (arith, o .0 .over) in search (arith, no-eqb, lt→ltb, le→leb))
+      (λ t o. (search (arith, ltb→lt, leb→le), ap (λ (u : ThingRecord). u .thing .onHold) (o .1 .1 .1 .1 .1)))
+      (λ t o.
+      let nz : t .id ≢ 0 = omega (arith, o .0 .0 .over) in
+      let same : t ≡ record { id = t .id; thing = record { type = t .thing .type; onHold = eqb kind 8 } } =
+      λ i. record { id = t .id; thing = record { type = t .thing .type; onHold = o .1 i } } in
+      search (arith, no-eqb, lt→ltb, le→leb))
 
   cell-trip : (ts : List ThingRecord) (last : CellRecord) → Trip body (cell h ts last) cellBytes (NextOk h ts last)
   unfolding cell cellBytes littleEndian
@@ -104,16 +151,20 @@ module _ (h : Head) (z : Sized h) where
       (λ c o. search (arith, ltb→lt, eqb-no))
       (λ c o. let low = pow-mono (z .rights .1) in search (arith, row-thing, lt→ltb, no-eqb))
 
-  -- ---- their records, of the one kind that may stand there
+  -- ---- their records; of the one kind that may stand there, but a thing's
   module _ (s : List ℕ) where
     pub head-record : Trip (input s) (inRecord s 128 (λ kind. head h)) (λ st. recordBytes 7 (headBytes (h .rights) st)) StatedOk
     unfolding headBytes littleEndian
     head-record = trip-kind s 7 (omega arith) head-trip (λ st o. omega arith)
 
     pub thing-record : (highest last : ℕ) →
-        Trip (input s) (inRecord s 16 (λ kind. thing h highest last)) (λ t. recordBytes 4 (thingBytes t)) (UpToOk h highest last)
-    unfolding thingBytes littleEndian
-    thing-record highest last = trip-kind s 4 (omega arith) (thing-trip highest last) (λ t o. omega arith)
+        Trip (input s) (inRecord s 272 (thing h highest last)) (λ t. recordBytes (thingKind t) (thingBytes t)) (UpToOk h highest last)
+    unfolding thingBytes thingKind littleEndian
+    thing-record highest last =
+        trip-as
+        (trip-record s 272 (thing h highest last) thingKind {Ok = λ kind t. UpToOk h highest last t × (t .thing .onHold ≡ eqb kind 8)}
+        (λ kind m. thing-trip highest last kind) (λ kind t m o. marked-kind kind (t .thing .onHold) m (o .1)))
+        (λ t o. refl) (λ t o. o .1 .0) (λ t o. let (m, e) = kind-marked (t .thing) in (m, (o, e), omega arith))
 
     pub cell-record : (ts : List ThingRecord) (last : CellRecord) →
         Trip (input s) (inRecord s 32 (λ kind. cell h ts last)) (λ c. recordBytes 5 (cellBytes c)) (NextOk h ts last)

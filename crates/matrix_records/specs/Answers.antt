@@ -61,7 +61,7 @@ unfoldable pub readHead : List ℕ → ℕ → ℕ → Head → HeadAt
 readHead s at kinds h = asHeadAt (kindAt s at) (against (acceptedHead h) (inRecord s kinds (λ kind. head h) at))
 
 unfoldable pub readThing : List ℕ → ℕ → ℕ → Head → ℕ → ℕ → ThingAt
-readThing s at kinds h highest last = asThingAt (kindAt s at) (against (acceptedHead h) (inRecord s kinds (λ kind. thing h highest last) at))
+readThing s at kinds h highest last = asThingAt (kindAt s at) (against (acceptedHead h) (inRecord s kinds (thing h highest last) at))
 
 unfoldable pub readCell : List ℕ → ℕ → ℕ → Head → Things → ℕ → CellRecord → CellAt
 readCell s at kinds h th n last =

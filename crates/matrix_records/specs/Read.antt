@@ -8,7 +8,7 @@ use lib.Dec.{eqb, leb, ltb}
 use Rattle.rights.specs.Numberings.{type}
 use Rattle.laws.specs.Check.{isSome}
 use Rattle.model.specs.Scheme.{isSubject}
-use Rattle.model.specs.Request.{Thing, ofType}
+use Rattle.model.specs.Request.{Thing}
 use Rattle.model.specs.declared.Head.{Head}
 use Rattle.records.specs.Reading.{Body, _>>=_, _>>_, done, check, field, number}
 use Rattle.matrix_records.specs.Content.{Stated, ThingRecord, CellRecord}
@@ -22,15 +22,15 @@ head h = do
   highest ← number 2
   done (record { count = count; highest = highest })
 
--- ---- a thing: id (2), not 0, above the one before and not above the highest; type (1)
-unfoldable pub thing : Head → ℕ → ℕ → Body ThingRecord
-thing h highest last = do
+-- ---- a thing, on hold where its record is of kind 8: id (2), not 0, above the one before and not above the highest; type (1)
+unfoldable pub thing : Head → ℕ → ℕ → ℕ → Body ThingRecord
+thing h highest last kind = do
   id ← number 2
   check (not (eqb id 0)) 6
   check (ltb last id) 7
   check (leb id highest) 6
   t ← field 0 (h .types) 5
-  done (record { id = id; thing = ofType (type t) })
+  done (record { id = id; thing = record { type = type t; onHold = eqb kind 8 } })
 
 -- ---- a cell: row id (2), column id (2), rights as an 8-byte set
 

@@ -61,7 +61,7 @@ pub(crate) fn head_of(b: &[u8], h: Head, front: Front) -> HeadAt
 
 // A thing with an id up to the highest, behind one with the id `last`, 0 for none.
 pub(crate) fn thing_of(b: &[u8], h: Head, highest: u16, last: u16, front: Front) -> ThingAt
-    ensures { λ r. ⌜ r ≡ thingOf front (whole (thing h highest last) (now (b .entry))) ⌝ }
+    ensures { λ r. ⌜ r ≡ thingOf front (whole (thing h highest last (front .kind)) (now (b .entry))) ⌝ }
 {
     let at = front.at;
     let first = records::field2_at(b, 0);

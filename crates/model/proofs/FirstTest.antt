@@ -45,7 +45,7 @@ module _ {M : Type 0} (view : View M) where
     early = record {
       noCommand = λ e. absurd (omega arith);
       otherCount = λ e. absurd (omega arith);
-      places = record { noThing = λ e. absurd (omega arith); otherType = λ e. absurd (omega arith) };
+      places = record { noThing = λ e. absurd (omega arith); otherType = λ e. absurd (omega arith); onHold = λ e. absurd (omega arith) };
     }
 
     late : (p : ℕ) → EveryOperation IfTest p

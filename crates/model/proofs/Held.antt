@@ -15,6 +15,7 @@ use Rattle.model.specs.declared.Things.{Things}
 pub record HeldThings (s : Head) (th : Things) : Type 0 where
   pub idRoom : length (th .ids) ≡ 48
   pub typeRoom : length (th .types) ≡ 48
+  pub markRoom : length (th .marks) ≡ 48
   pub apart : (i j : ℕ) → i < 48 → j < 48 → getD (th .ids) i 0 ≢ 0 → getD (th .ids) i 0 ≡ getD (th .ids) j 0 → i ≡ j
   pub reach : th .highest ≤ 65535
   -- what the test of one seat says is read off by the laws of `HeldLaws`; a new rule for seats needs no field here

@@ -65,7 +65,7 @@ apart-all (x ∷ xs) h =
 
 -- ---- seats
 
-from-at : (f : ℕ → Bool) (i k : ℕ) → T (allFrom f i k) → (j : ℕ) → j < k → T (f (i + j))
+pub from-at : (f : ℕ → Bool) (i k : ℕ) → T (allFrom f i k) → (j : ℕ) → j < k → T (f (i + j))
 unfolding allFrom
 from-at f i zero t j h = absurd (not-suc-le-zero h)
 from-at f i (suc k) t zero h = rw (add-zero i) (and-left (f i) _ t)
@@ -168,10 +168,12 @@ unfolding acceptedThings
 held-things s th t =
     let room : length (th .ids) ≡ 48 = eqb→eq (length (th .ids)) 48 (search (and-left, and-right)) in
     let types : length (th .types) ≡ 48 = eqb→eq (length (th .types)) 48 (search (and-left, and-right)) in
+    let marks : length (th .marks) ≡ 48 = eqb→eq (length (th .marks)) 48 (search (and-left, and-right)) in
     let seats : T (allFrom (λ i. acceptedSeat s th (getD (th .ids) i 0) (thingIn th i)) 0 48) = search (and-left, and-right) in
     record {
       idRoom = room;
       typeRoom = types;
+      markRoom = marks;
       apart = rw room at (apart-at (th .ids) (search (and-left, and-right)));
       reach = leb→le (th .highest) 65535 (search (and-left, and-right));
       seat = λ i l. rw (zero-add i) at (from-at (λ i. acceptedSeat s th (getD (th .ids) i 0) (thingIn th i)) 0 48 seats i l);
@@ -185,6 +187,7 @@ unfolding acceptedThings
 accepted-things s th h =
     let room = equal (length (th .ids)) 48 (h .idRoom) in
     let types = equal (length (th .types)) 48 (h .typeRoom) in
+    let marks = equal (length (th .marks)) 48 (h .markRoom) in
     let one = ids-apart s th h in
     let reach = le→leb (th .highest) 65535 (h .reach) in
     let seats = from-all (λ i. acceptedSeat s th (getD (th .ids) i 0) (thingIn th i)) 0 48 (λ i l. rw (zero-add i) (h .seat i l)) in

@@ -5,14 +5,17 @@ use native.Mathlib.Nat.{not-suc-le-zero, le-of-suc-le-suc, zero-add, add-zero, a
 use native.Mathlib.Omega.{arith}
 use mathlib.Core.Path.{_≡_, refl}
 use mathlib.Core.Logic.{_≢_}
+use mathlib.Core.Bool.{true, false}
 use mathlib.Core.Option.{none, some}
 use mathlib.Core.List.{List, [], _∷_, _++_}
+use lib.Dec.{T}
 use lib.ListN.{length, getD}
-use Rattle.rights.specs.Numberings.{parameter}
+use Rattle.rights.specs.Numberings.{parameter, sameType}
 use Rattle.rights.specs.declared.ThingType.{ThingType}
-use Rattle.laws.specs.Check.{_orElse_}
+use Rattle.laws.specs.Check.{_orElse_, must}
+use Rattle.laws.proofs.Bools.{is-true}
 use Rattle.model.specs.Scheme.{isNew, noType}
-use Rattle.model.specs.Request.{View, Outcome, done, refused, answer, number, after, andThen, placeFault, placesFault, operate, operateAll}
+use Rattle.model.specs.Request.{Thing, isId, View, at, Outcome, done, refused, answer, number, after, andThen, typeFault, placeFault, placesFault, operate, operateAll}
 use Rattle.model.specs.Promises.{InOrder}
 use Rattle.model.specs.declared.Operation.{Operation}
 use Rattle.model.specs.declared.Refusal.{Refusal}
@@ -53,8 +56,25 @@ module _ {M : Type 0} (view : View M) where
   none-left m (done n) h = absurd (h refl)
   none-left m (refused k) h = refl
 
+  module _ (m : M) (t : ThingType) (x : ℕ) (id : T (isId x)) where
+    new-unasked : placeFault view m true t x ≡ none
+    unfolding placeFault must _orElse_
+    new-unasked = rw (is-true (isId x) id)
+
+    module _ (u : Thing) (there : view .thing m x ≡ some u) where
+      type-first : sameType (u .type) t ≡ false → placeFault view m false t x ≡ some (at 13 0)
+      unfolding placeFault typeFault must _orElse_
+      type-first e = rw (is-true (isId x) id, there, e)
+
+      then-mark : sameType (u .type) t ≡ true → u .onHold ≡ true → placeFault view m false t x ≡ some (at 18 0)
+      unfolding placeFault typeFault must _orElse_
+      then-mark e on = rw (is-true (isId x) id, there, e, on)
+
   pub in-order : InOrder view
   in-order = record {
+    typeFirst = λ m t x u id there. type-first m t x id u there;
+    thenMark = λ m t x u id there. then-mark m t x id u there;
+    newUnasked = new-unasked;
     firstPlace = λ m os ts ids i k l h pass e.
         first-from m os 0 ts ids i k l h (λ j lj. rw zero-add (pass j lj)) (rw zero-add e);
     wholeRefused = whole;

@@ -42,7 +42,7 @@ module _ {M : Type 0} (P : M → Type 0) where
   unless-if none o h = h
   unless-if (some r) o h = tt
 
-  then-done : (o : Outcome M) (f : M → Outcome M) → IfDone P o → ((m : M) → P m → IfDone P (f m)) → IfDone P (andThen o f)
+  pub then-done : (o : Outcome M) (f : M → Outcome M) → IfDone P o → ((m : M) → P m → IfDone P (f m)) → IfDone P (andThen o f)
   unfolding andThen IfDone
   then-done (done m) f h law = law m h
   then-done (refused r) f h law = tt

@@ -10,6 +10,7 @@ pub mod Simulation
 pub mod Invariant
 pub mod Held
 pub mod Find
+pub mod SeatFound
 pub mod HeldLaws
 pub mod Population
 pub mod SeatChange

@@ -40,7 +40,8 @@ pub record Since (th now : Population) : Type 0 where
   pub rises : th .highest ≤ now .highest
   pub new : (x : ℕ) → th .thing x ≡ none → T (isSome (now .thing x)) → th .highest < x
 
-above : (m : State) (x : ℕ) → T (mayCreate (m .things) x) → m .things .highest < x
+-- what may be created is above the highest
+pub above : (m : State) (x : ℕ) → T (mayCreate (m .things) x) → m .things .highest < x
 unfolding mayCreate
 above m x may = ltb→lt (m .things .highest) x (and-right (not (isSome (m .things .thing x))) _ may)
 
@@ -156,7 +157,7 @@ run-rises s m (q ∷ qs) = rises-after m _ _ (rises-command m q (getElem? (comma
 
 -- ---- the theorem
 
-run-append : (s : Scheme) (m : State) (qs rs : List Request) → run papers s m (qs ++ rs) ≡ run papers s (run papers s m qs) rs
+pub run-append : (s : Scheme) (m : State) (qs rs : List Request) → run papers s m (qs ++ rs) ≡ run papers s (run papers s m qs) rs
 unfolding run
 run-append s m [] rs = refl
 run-append s m (q ∷ qs) rs = run-append s (after m (step papers s m q)) qs rs

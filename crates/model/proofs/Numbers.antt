@@ -1,4 +1,4 @@
--- Every refusal of a request has a number from 10 to 17: none of its checks gives another.
+-- Every refusal of a request has a number from 10 to 18: none of its checks gives another.
 -- Assumes nothing.
 use Prim.Native.Nat.{ℕ}
 use mathlib.Core.Option.{none, some}
@@ -11,11 +11,11 @@ use Rattle.model.specs.declared.Refusal.{Refusal}
 use Rattle.model.proofs.Refusals.{IfRefused, EveryOperation, EarlyRefusals, operations-give, request-gives}
 
 abbrev Numbered : Refusal → Type 0
-Numbered r = T (between 10 17 (r .number))
+Numbered r = T (between 10 18 (r .number))
 
 early : EarlyRefusals Numbered
 unfolding between
-early = record { noCommand = tt; otherCount = tt; places = record { noThing = tt; otherType = tt } }
+early = record { noCommand = tt; otherCount = tt; places = record { noThing = tt; otherType = tt; onHold = tt } }
 
 late : (p : ℕ) → EveryOperation Numbered p
 unfolding between

@@ -62,6 +62,7 @@ IfRefused P (some r) = P r
 pub record EveryPlace (P : Refusal → Type 0) : Type 0 where
   pub noThing : P (at 12 0)
   pub otherType : P (at 13 0)
+  pub onHold : P (at 18 0)
 
 pub record EveryOperation (P : Refusal → Type 0) (p : ℕ) : Type 0 where
   pub mayNot : P (at 15 p)
@@ -105,7 +106,7 @@ module _ (P : Refusal → Type 0) where
   type-gives : EveryPlace P → (t : ThingType) (o : Option Thing) → IfRefused P (typeFault t o)
   unfolding typeFault IfRefused
   type-gives each t none = each .noThing
-  type-gives each t (some u) = must-give (sameType (u .type) t) (at 13 0) (each .otherType)
+  type-gives each t (some u) = or-give _ _ (must-give (sameType (u .type) t) (at 13 0) (each .otherType)) (must-give (not (u .onHold)) (at 18 0) (each .onHold))
 
   module _ {M : Type 0} (view : View M) where
     pub places-give : EveryPlace P → (m : M) (os : List Operation) (p : ℕ) (ts : List ThingType) (xs : List ℕ) → IfRefused P (placesFault view m os p ts xs)

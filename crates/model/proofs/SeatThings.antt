@@ -59,11 +59,12 @@ blank-at p l i j lj =
 -- what sits at a seat after a put: all that the proofs need to know of the arrays
 in-other : (th : Things) (p y : ℕ) (t : Thing) (i : ℕ) → i ≢ p → thingIn (putThing p y t th) i ≡ thingIn th i
 unfolding thingIn putThing
-in-other th p y t i n = rw (getD-set-other (th .types) p i (t .type) noType n)
+in-other th p y t i n = rw (getD-set-other (th .types) p i (t .type) noType n, getD-set-other (th .marks) p i (t .onHold) false n)
 
 in-here : (s : Head) (th : Things) (p y : ℕ) (t : Thing) → p < 48 → HeldThings s th → thingIn (putThing p y t th) p ≡ t
 unfolding thingIn putThing
-in-here s th p y t lp ok = rw (getD-set-same (th .types) p (t .type) noType (rw (ok .typeRoom) lp))
+in-here s th p y t lp ok =
+    rw (getD-set-same (th .types) p (t .type) noType (rw (ok .typeRoom) lp), getD-set-same (th .marks) p (t .onHold) false (rw (ok .markRoom) lp))
 
 module _ (s : Head) (th : Things) (p y : ℕ) (t : Thing) (lp : p < 48) (ok : HeldThings s th) where
   -- a seat after a put is the one put to, or another
@@ -96,6 +97,7 @@ module _ (s : Head) (th : Things) (p y : ℕ) (t : Thing) (lp : p < 48) (ok : He
   put-things fits small new = record {
     idRoom = simp length-set (ok .idRoom);
     typeRoom = simp length-set (ok .typeRoom);
+    markRoom = simp length-set (ok .markRoom);
     apart = λ i j li lj. put-at (λ v w. v ≢ 0 → v ≡ getD (putThing p y t th .ids) j 0 → i ≡ j) i
         (λ ei nz. put-at (λ v w. y ≡ v → i ≡ j) j (λ ej e. omega arith) (λ ej e. absurd (new nz j lj (sym e))))
         (λ ei nz. put-at (λ v w. getD (th .ids) i 0 ≡ v → i ≡ j) j (λ ej e. absurd (new (λ z. nz (e ∙ z)) i li e)) (λ ej e. ok .apart i j li lj nz e));

@@ -80,7 +80,10 @@ pub record Placed (p : State) (new : Bool) (t : ThingType) (x : ℕ) : Type 0 wh
 fits-type : (t : ThingType) (u : Option Thing) → T (passes (typeFault t u)) → u ≡ some (ofType t)
 unfolding typeFault passes
 fits-type t none ok = absurd ok
-fits-type t (some u) ok = ap (λ (n : ℕ). some (ofType (record { 0 = n }))) (eqb→eq (u .type .0) (t .0) (must-pass _ (at 13 0) ok))
+fits-type t (some u) ok =
+    let n : u .type .0 ≡ t .0 = eqb→eq (u .type .0) (t .0) (must-pass _ (at 13 0) (first-pass _ _ ok)) in
+    let free : u .onHold ≡ false = is-false (u .onHold) (λ b. not-both (u .onHold) b (must-pass _ (at 18 0) (then-pass _ _ ok))) in
+    λ i. some (record { type = record { 0 = n i }; onHold = free i })
 
 placed : (p : State) (new : Bool) (t : ThingType) (x : ℕ) → T (passes (placeFault papers p new t x)) → Placed p new t x
 unfolding placeFault papers

@@ -115,7 +115,7 @@ NoSteps r = (all : Steps) → stepsOf all (some r) ≡ takes 0 0
 
 no-steps : EveryPlace NoSteps
 unfolding stepsOf between
-no-steps = record { noThing = λ all. refl; otherType = λ all. refl }
+no-steps = record { noThing = λ all. refl; otherType = λ all. refl; onHold = λ all. refl }
 
 other-count : NoSteps (at 11 0)
 unfolding stepsOf between

@@ -140,7 +140,7 @@ apart (x ∷ xs) = (eqb x 0 || not (among xs x)) && apart xs
 
 -- what sits at a free seat is at zero
 unfoldable pub zeroThing : Thing → Bool
-zeroThing t = zeroType (t .type)
+zeroThing t = zeroType (t .type) && not (t .onHold)
 
 -- an id from 1 to the highest that there ever was, with a type of the scheme; or a free seat
 unfoldable pub acceptedSeat : Head → Things → ℕ → Thing → Bool
@@ -155,6 +155,7 @@ unfoldable pub acceptedThings : Head → Things → Bool
 acceptedThings h th =
     eqb (length (th .ids)) 48
     && eqb (length (th .types)) 48
+    && eqb (length (th .marks)) 48
     && leb (th .highest) 65535
     && apart (th .ids)
     && allFrom (λ i. acceptedSeat h th (getD (th .ids) i 0) (thingIn th i)) 0 48

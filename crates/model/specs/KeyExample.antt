@@ -33,7 +33,7 @@ keyScheme = schemeFrom 4 3 3 (retire ∷ load ∷ [])
 -- things: 5 manager, 9 key, 12 robot, and there never was a higher id; cells: [5, 9] = 1, [9, 12] = 2
 unfoldable pub keyMatrix : Matrix
 keyMatrix = record {
-  things = record { ids = 5 ∷ 9 ∷ 12 ∷ replicate 45 0; types = type 0 ∷ type 1 ∷ type 2 ∷ replicate 45 noType; highest = 12 };
+  things = record { ids = 5 ∷ 9 ∷ 12 ∷ replicate 45 0; types = type 0 ∷ type 1 ∷ type 2 ∷ replicate 45 noType; marks = replicate 48 false; highest = 12 };
   cells = set (set (replicate 2304 0) 1 1) 50 2;
 }
 

@@ -3,16 +3,16 @@
 use Prim.Native.Nat.{ℕ, _+_, _≤_, _<_}
 use mathlib.Core.Path.{_≡_}
 use mathlib.Core.Logic.{_≢_}
-use mathlib.Core.Bool.{Bool, true}
+use mathlib.Core.Bool.{Bool, true, false}
 use mathlib.Core.Option.{none, some}
 use mathlib.Core.List.{List, _∷_, _++_}
 use lib.Dec.{T}
 use lib.ListN.{length, getD}
-use Rattle.rights.specs.Numberings.{parameter}
+use Rattle.rights.specs.Numberings.{parameter, sameType}
 use Rattle.rights.specs.declared.ThingType.{ThingType}
 use Rattle.laws.specs.Check.{all, between}
 use Rattle.model.specs.Scheme.{isNew, noType}
-use Rattle.model.specs.Request.{Request, View, Answer, Outcome, done, refused, answer, number, after, placeFault, placesFault, operate, operateAll, step, run, answers}
+use Rattle.model.specs.Request.{Request, Thing, isId, View, at, Answer, Outcome, done, refused, answer, number, after, placeFault, placesFault, operate, operateAll, step, run, answers}
 use Rattle.model.specs.Papers.{State, papers, howMany}
 use Rattle.model.specs.Seats.{Matrix, seats, standsFor}
 use Rattle.model.specs.Accepted.{acceptedScheme, acceptedMatrix}
@@ -58,6 +58,12 @@ pub record InOrder {M : Type 0} (view : View M) : Type 0 where
   pub firstPlace : (m : M) (os : List Operation) (ts : List ThingType) (ids : List ℕ) (i : ℕ) (r : Refusal) → length ids ≡ length ts → i < length ts →
       ((j : ℕ) → j < i → placeFault view m (isNew os (parameter j)) (getD ts j noType) (getD ids j 0) ≡ none) →
       placeFault view m (isNew os (parameter i)) (getD ts i noType) (getD ids i 0) ≡ some r → placesFault view m os 0 ts ids ≡ some r
+  -- At a place that isn't new the type (13) comes before the mark (18); of a new parameter's id no thing is asked.
+  pub typeFirst : (m : M) (t : ThingType) (x : ℕ) (u : Thing) → T (isId x) → view .thing m x ≡ some u → sameType (u .type) t ≡ false →
+      placeFault view m false t x ≡ some (at 13 0)
+  pub thenMark : (m : M) (t : ThingType) (x : ℕ) (u : Thing) → T (isId x) → view .thing m x ≡ some u → sameType (u .type) t ≡ true → u .onHold ≡ true →
+      placeFault view m false t x ≡ some (at 18 0)
+  pub newUnasked : (m : M) (t : ThingType) (x : ℕ) → T (isId x) → placeFault view m true t x ≡ none
   -- All or nothing: an operation that refuses, after others were carried out, refuses the whole, with its number and place.
   pub wholeRefused : (ts : List ThingType) (ids : List ℕ) (p : ℕ) (before : List Operation) (o : Operation) (later : List Operation) (m next : M) (r : Refusal) →
       operateAll view ts ids p before m ≡ done next → operate view ts ids (p + length before) o next ≡ refused r →
@@ -65,10 +71,10 @@ pub record InOrder {M : Type 0} (view : View M) : Type 0 where
   -- A refused request has no effect at all.
   pub noEffect : (m : M) (o : Outcome M) → number (answer o) ≢ 0 → after m o ≡ m
 
--- Every refusal of a request has one of the outline's numbers for requests, 10 to 17, in any form of a matrix.
+-- Every refusal of a request has one of the outline's numbers for requests, 10 to 18, in any form of a matrix.
 unfoldable pub tellsRequest : Answer → Bool
 tellsRequest none = true
-tellsRequest (some r) = between 10 17 (r .number)
+tellsRequest (some r) = between 10 18 (r .number)
 
 abbrev pub RequestNumbers : Type 1
 RequestNumbers = (M : Type 0) (view : View M) (s : Scheme) (m : M) (q : Request) → T (tellsRequest (answer (step view s m q)))

@@ -1,8 +1,8 @@
--- The outline, "Carrying out one request": the checks 10 to 17 in their order, the operations, and a list of requests.
+-- The outline, "Carrying out one request": the checks 10 to 18 in their order, the operations, and a list of requests.
 -- All of it is said once, for any form that a matrix may have: a `View` tells how such a form is asked and changed.
 -- Assumes nothing.
 use Prim.Native.Nat.{ℕ, suc}
-use mathlib.Core.Bool.{Bool, not, cond, _&&_}
+use mathlib.Core.Bool.{Bool, false, not, cond, _&&_}
 use mathlib.Core.Option.{Option, none, some}
 use mathlib.Core.List.{List, [], _∷_}
 use lib.Dec.{eqb, leb}
@@ -30,12 +30,13 @@ pub record Request : Type 0 where
 unfoldable pub isId : ℕ → Bool
 isId x = leb 1 x && leb x 65535
 
--- a thing, as far as a request asks for it; and a thing of a type as it is created, which is what a place asks for
+-- a thing, as far as a request asks for it; and a thing of a type as it is created, not on hold, which is what a place asks for
 pub record Thing : Type 0 where
   pub type : ThingType
+  pub onHold : Bool
 
 abbrev pub ofType : ThingType → Thing
-ofType t = record { type = t }
+ofType t = record { type = t; onHold = false }
 
 -- what a request asks of a matrix, and what it may do to it; X and Y are ids
 pub record View (M : Type 0) : Type 0 where
@@ -88,10 +89,10 @@ unfoldable pub andThen : {M : Type 0} → Outcome M → (M → Outcome M) → Ou
 andThen (done m) f = f m
 andThen (refused r) f = refused r
 
--- a parameter of type t that isn't new must name an existing thing (12) of that type (13)
+-- a parameter of type t that isn't new must name an existing thing (12) of that type (13) that isn't on hold (18)
 unfoldable pub typeFault : ThingType → Option Thing → Option Refusal
 typeFault t none = some (at 12 0)
-typeFault t (some u) = must (sameType (u .type) t) (at 13 0)
+typeFault t (some u) = must (sameType (u .type) t) (at 13 0) orElse must (not (u .onHold)) (at 18 0)
 
 module _ {M : Type 0} (view : View M) where
   -- one place: its id, 0 for none (12); new parameters are checked for no more
@@ -130,7 +131,7 @@ module _ {M : Type 0} (view : View M) where
   operateAll types ids p [] m = done m
   operateAll types ids p (o ∷ os) m = andThen (operate types ids p o m) (operateAll types ids (suc p) os)
 
-  -- as many ids as parameters (11), each place (12, 13), the tests on the matrix as it stands (14), then the operations in order (15 to 17)
+  -- as many ids as parameters (11), each place (12, 13, 18), the tests on the matrix as it stands (14), then the operations in order (15 to 17)
   unfoldable pub carryOut : M → List ℕ → Command → Outcome M
   carryOut m ids c =
       unlessFault

@@ -23,11 +23,11 @@ matrixOf th cells = record { things = th; cells = cells }
 
 -- every seat is free, and there never was a thing
 abbrev pub noThings : Things
-noThings = record { ids = replicate 48 0; types = replicate 48 noType; highest = 0 }
+noThings = record { ids = replicate 48 0; types = replicate 48 noType; marks = replicate 48 false; highest = 0 }
 
 -- the same seats, where x is the highest id that there ever was
 abbrev pub withHighest : ℕ → Things → Things
-withHighest x th = record { ids = th .ids; types = th .types; highest = x }
+withHighest x th = record { ids = th .ids; types = th .types; marks = th .marks; highest = x }
 
 -- is x among the ids, and at which seat first?
 unfoldable pub among : List ℕ → ℕ → Bool
@@ -49,7 +49,7 @@ seat th x = find (th .ids) x
 
 -- what sits at seat i
 unfoldable pub thingIn : Things → ℕ → Thing
-thingIn th i = record { type = getD (th .types) i noType }
+thingIn th i = record { type = getD (th .types) i noType; onHold = getD (th .marks) i false }
 
 unfoldable pub thingAt : Things → ℕ → Option Thing
 thingAt th x = cond (known th x) (some (thingIn th (seat th x))) none
@@ -74,7 +74,12 @@ change f x y m = record { things = m .things; cells = set (m .cells) (place (m .
 
 -- the thing at seat p is x, and is t; the highest id is at least x (0, for nobody, never raises it)
 unfoldable pub putThing : ℕ → ℕ → Thing → Things → Things
-putThing p x t th = record { ids = set (th .ids) p x; types = set (th .types) p (t .type); highest = max (th .highest) x }
+putThing p x t th = record {
+  ids = set (th .ids) p x;
+  types = set (th .types) p (t .type);
+  marks = set (th .marks) p (t .onHold);
+  highest = max (th .highest) x;
+}
 
 -- the cells with row p and column p emptied; k is the place of the first cell of the list
 unfoldable pub blank : ℕ → ℕ → List ℕ → List ℕ

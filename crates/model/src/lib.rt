@@ -62,11 +62,12 @@ pub struct Scheme {
     pub commands: [Command; Scheme::PLACES],
 }
 
-// The things of a matrix by seat, where a seat whose id is 0 is free; and the highest id that there ever was. The cells are kept apart, in a list of 48
-// times 48 sets.
+// The things of a matrix by seat, where a seat whose id is 0 is free: their ids, types, and marks, which say who is on hold; and the highest id that
+// there ever was. The cells are kept apart, in a list of 48 times 48 sets.
 pub struct Things {
     pub ids: [u16; Things::LIMIT],
     pub types: [ThingType; Things::LIMIT],
+    pub marks: [bool; Things::LIMIT],
     pub highest: u16,
 }
 

@@ -1,5 +1,4 @@
 -- The laws that the proofs of `plan` cite.
-pub mod SeatFound
 pub mod PlaceLaws
 pub mod PlanLaws
 pub mod Sits

@@ -1,7 +1,7 @@
 -- The answer of one place, and what a turn of the walk over the places decides: over plain lists and numbers, so that a function's proof names few places
 -- of its context. Assumes nothing.
 use Prim.Native.Nat.{ℕ, _+_, min, _≤_, _<_}
-use mathlib.Core.Path.{_≡_, refl, _∙_}
+use mathlib.Core.Path.{_≡_, refl}
 use mathlib.Core.Bool.{Bool, true, false, cond}
 use mathlib.Core.Option.{Option, none, some}
 use mathlib.Core.List.{List, [], _∷_}
@@ -23,14 +23,31 @@ use Rattle.model.specs.Seats.{seats, find, seat, thingIn, thingAt}
 use Rattle.model.specs.declared.Operation.{Operation}
 use Rattle.model.specs.declared.Refusal.{Refusal}
 use Rattle.model.specs.declared.Things.{Things}
+use Rattle.model.proofs.SeatFound.{known-found}
 use Rattle.model.specs.declared.Verdict.the-variants.{Done, Refused}
 use Rattle.plan.specs.Locate.{bare, seatOf, seatsFrom, noSpots, locatedBy}
 use Rattle.plan.specs.Inner.Spot.{spotBy, spotOf}
 use Rattle.plan.specs.declared.places.Located.{Located}
 use Rattle.plan.specs.declared.places.Spot.{Spot}
-use Rattle.plan.proofs.SeatFound.{known-found}
 
 -- ---- one place
+
+-- what a thing at its seat is told, where one of the type t is asked for
+module _ (seat : ℕ) (of : ThingType) (mark : Bool) (t : ThingType) (b : Bool) (is : b ≡ sameType of t) where
+  abbrev its-spot : Spot
+  its-spot = spotBy seat (typeFault t (some (record { type = of; onHold = mark })))
+
+  pub spot-wrong : b ≡ false → spotBy 0 (some (at 13 0)) ≡ its-spot
+  unfolding typeFault must _orElse_
+  spot-wrong e = rw (← is, e)
+
+  pub spot-held : b ≡ true → mark ≡ true → spotBy 0 (some (at 18 0)) ≡ its-spot
+  unfolding typeFault must _orElse_
+  spot-held e on = rw (← is, e, on)
+
+  pub spot-fits : b ≡ true → mark ≡ false → spotBy seat none ≡ its-spot
+  unfolding typeFault must _orElse_
+  spot-fits e off = rw (← is, e, off)
 
 module _ (th : Things) (new : Bool) (t : ThingType) (x : ℕ) where
   pub spot-0 : x ≡ 0 → spotBy 0 (some (at 12 0)) ≡ spotOf th new t x
@@ -56,14 +73,9 @@ module _ (th : Things) (new : Bool) (t : ThingType) (x : ℕ) where
       unfolding typeFault
       spot-unknown h = spot-old false (le-ltb i 48 h)
 
-      module _ (h : i < 48) (b : Bool) (is : b ≡ sameType (getD (th .types) i noType) t) where
-        pub spot-wrong : b ≡ false → spotBy 0 (some (at 13 0)) ≡ spotOf th new t x
-        unfolding typeFault must thingIn
-        spot-wrong e = (rw (← is, e)) ∙ spot-old true (lt-ltb i 48 h)
-
-        pub spot-here : b ≡ true → spotBy i none ≡ spotOf th new t x
-        unfolding typeFault must thingIn
-        spot-here e = (rw (← is, e)) ∙ spot-old true (lt-ltb i 48 h)
+      pub spot-there : i < 48 → spotBy i (typeFault t (some (record { type = getD (th .types) i noType; onHold = getD (th .marks) i false }))) ≡ spotOf th new t x
+      unfolding thingIn
+      spot-there h = spot-old true (lt-ltb i 48 h)
 
 -- ---- all places
 

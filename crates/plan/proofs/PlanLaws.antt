@@ -23,7 +23,7 @@ use Rattle.model.specs.declared.Verdict.the-variants.{Done, Refused}
 use Rattle.plan.specs.Locate.{noSpots}
 use Rattle.plan.specs.Plan.{seatAt, Plan, planOf, planCreate, planDestroy, planBy, planAll, asPlanning}
 use Rattle.plan.specs.declared.plan.Planning.{Planning}
-use Rattle.plan.proofs.SeatFound.{full-found, free-found}
+use Rattle.model.proofs.SeatFound.{full-found, free-found}
 
 -- ---- a create, by whether the id may take a seat, and by the first free one
 

@@ -1,4 +1,4 @@
--- The seats of the parameters' things, or the first fault of their ids (12, 13).
+-- The seats of the parameters' things, or the first fault of their ids (12, 13, 18).
 -- Assumes nothing.
 use Prim.Native.Nat.{ℕ, suc}
 use mathlib.Core.Bool.{Bool, cond}

@@ -1,4 +1,4 @@
-// Where the parameters' things sit: the checks of each place (12, 13).
+// Where the parameters' things sit: the checks of each place (12, 13, 18).
 use accepted::is_create;
 use model::Operation;
 use model::Operations;
@@ -11,7 +11,7 @@ use rights::ThingType;
 ghost use mathlib.Core.Path.{_≡_};
 ghost use mathlib.Core.Option.{none, some};
 ghost use Prim.Native.Nat.{min};
-ghost use Rattle.model.specs.Request.{at};
+ghost use Rattle.model.specs.Request.{at, typeFault};
 ghost use Rattle.model.specs.Scheme.{creates, isNew, parametersOf, operationsOf};
 ghost use Rattle.plan.specs.Locate.{located};
 ghost use Rattle.plan.specs.Inner.Spot.{spotBy, spotOf};
@@ -76,6 +76,19 @@ fn sits(seat: u8) -> Spot
     }
 }
 
+// The seat of a thing that is `of` a type, marked or not, where one of the type `t` is asked for.
+fn spot_at(seat: u8, of: ThingType, mark: bool, t: ThingType) -> Spot
+    ensures { λ r. ⌜ r ≡ spotBy seat (typeFault t (some (record { type = of; onHold = mark }))) ⌝ }
+{
+    if !of.is(t) {
+        return no_spot(13);
+    }
+    if mark {
+        return no_spot(18);
+    }
+    sits(seat)
+}
+
 // The seat of one place's id; a new parameter has none yet, which is told as 0.
 fn spot_of(th: Things, new: bool, t: ThingType, x: u16) -> Spot
     ensures { λ r. ⌜ r ≡ spotOf th new t x ⌝ }
@@ -91,11 +104,7 @@ fn spot_of(th: Things, new: bool, t: ThingType, x: u16) -> Spot
     if Things::LIMIT <= i {
         return no_spot(12);
     }
-    let of = th.types[i];
-    if !of.is(t) {
-        return no_spot(13);
-    }
-    sits(i as u8)
+    spot_at(i as u8, th.types[i], th.marks[i], t)
 }
 
 // As many places as there are parameters and ids.

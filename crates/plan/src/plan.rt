@@ -86,7 +86,7 @@ fn plan_create(
     }
     Planning {
         answer: Verdict::Done,
-        things: put_thing(th, free, x, t),
+        things: put_thing(th, free, x, t, false),
         spots: put_spot(spots, p, free as u8),
     }
 }
@@ -107,7 +107,7 @@ fn plan_destroy(
     }
     Planning {
         answer: Verdict::Done,
-        things: put_thing(th, i, 0, ThingType(0)),
+        things: put_thing(th, i, 0, ThingType(0), false),
         spots,
     }
 }

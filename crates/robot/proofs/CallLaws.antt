@@ -6,7 +6,8 @@ use mathlib.Core.Path.{_≡_, sym, ap, _∙_}
 use mathlib.Core.List.{List}
 use lib.Dec.{T}
 use lib.ListN.{getD, replicate}
-use Rattle.model.specs.Seats.{Matrix, noThings}
+use Rattle.model.specs.Request.{Outcome}
+use Rattle.model.specs.Seats.{Matrix, matrixOf, noThings}
 use Rattle.model.specs.Accepted.{acceptedScheme}
 use Rattle.model.specs.declared.Head.{Head}
 use Rattle.model.specs.declared.Scheme.{Scheme}
@@ -21,8 +22,13 @@ use Rattle.scheme_bytes.specs.Answers.{readScheme}
 use Rattle.scheme_bytes.specs.declared.answers.SchemeAnswer.{SchemeAnswer}
 use Rattle.scheme_bytes.proofs.FunctionTrips.{function-trips}
 use Rattle.matrix_bytes.specs.Answers.{readMatrix, readMatrixByHead}
+use Rattle.matrix_bytes.specs.Write.{writeMatrix}
 use Rattle.matrix_bytes.specs.declared.answers.MatrixAnswer.{MatrixAnswer}
-use Rattle.robot.specs.Library.{call, gives, givesWrote, givesRan, writingBy, wrote, afterScheme, withScheme, afterMatrix, withMatrix, notConverted, notRun}
+use Rattle.hold.specs.Marking.{asMarked}
+use Rattle.hold.specs.declared.Marked.{Marked}
+use Rattle.hold.specs.declared.Marking.the-variants as marking
+use Rattle.hold.proofs.MarkLaws.{marked-refused, marked-done}
+use Rattle.robot.specs.Library.{call, gives, givesWrote, givesRan, writingBy, wrote, afterScheme, withScheme, afterMatrix, withMatrix, notWritten, markedInto, notRun}
 use Rattle.model.specs.Arrays.{noScheme}
 use Rattle.matrix_bytes.proofs.ReadMatrix.{by-head}
 
@@ -74,9 +80,9 @@ module _ {A L : Type 0} (left : A → L) (refused : ℕ → ℕ → ℕ → A) w
 
 -- ---- what is left beside the buffers
 module _ (report : List ℕ) (n : ℕ) (report′ : List ℕ) where
-  pub not-converted : (out : List ℕ) (k where′ at : ℕ) → _≡_ {A = ℕ × List ℕ} (n, report′) (gives report (call k where′ at 0 0)) →
-      _≡_ {A = ℕ × List ℕ × List ℕ} (n, out, report′) (givesWrote report (notConverted out k where′ at))
-  not-converted out k where′ at e = ap (λ (x : ℕ × List ℕ). (x .0, out, x .1)) e
+  pub not-written : (out : List ℕ) (k where′ at : ℕ) → _≡_ {A = ℕ × List ℕ} (n, report′) (gives report (call k where′ at 0 0)) →
+      _≡_ {A = ℕ × List ℕ × List ℕ} (n, out, report′) (givesWrote report (notWritten out k where′ at))
+  not-written out k where′ at e = ap (λ (x : ℕ × List ℕ). (x .0, out, x .1)) e
 
   pub not-run : (results out : List ℕ) (k where′ at : ℕ) → _≡_ {A = ℕ × List ℕ} (n, report′) (gives report (call k where′ at 0 0)) →
       _≡_ {A = ℕ × List ℕ × List ℕ × List ℕ} (n, results, out, report′) (givesRan report (notRun results out k where′ at))
@@ -86,3 +92,16 @@ module _ (report : List ℕ) (n : ℕ) (report′ : List ℕ) where
       _≡_ {A = ℕ × List ℕ} (n, report′) (gives report (writingBy other w)) →
       _≡_ {A = ℕ × List ℕ × List ℕ} (n, out′, report′) (givesWrote report (wrote other is))
   told-wrote other w out′ is f e = ap (λ (x : ℕ × List ℕ). (x .0, out′, x .1)) e ∙ ap (λ (x : Writing × List ℕ). givesWrote report (wrote other x)) f
+
+  -- a mark, and the matrix with it
+  module _ (s : Scheme) (cells : List ℕ) (th : Things) (o : Outcome Things) (r : Marked) (is : r ≡ asMarked th o) where
+    pub told-no-thing : (out : List ℕ) (k : ℕ) → r .answer ≡ marking.Refused k → _≡_ {A = ℕ × List ℕ} (n, report′) (gives report (call k 2 0 0 0)) →
+        _≡_ {A = ℕ × List ℕ × List ℕ} (n, out, report′) (givesWrote report (markedInto out s cells o))
+    unfolding markedInto
+    told-no-thing out k e f = let (a, was, same) = marked-refused th r o is k e in rw (was, same) (not-written out k 2 0 f)
+
+    pub told-marked : (out : List ℕ) (w : Writing) (out′ : List ℕ) → r .answer ≡ marking.Done →
+        _≡_ {A = Writing × List ℕ} (w, out′) (writeMatrix out s (matrixOf (r .things) cells)) → _≡_ {A = ℕ × List ℕ} (n, report′) (gives report (writingBy 2 w)) →
+        _≡_ {A = ℕ × List ℕ × List ℕ} (n, out′, report′) (givesWrote report (markedInto out s cells o))
+    unfolding markedInto
+    told-marked out w out′ e f g = rw (marked-done th r o is e) (told-wrote 2 w out′ _ f g)

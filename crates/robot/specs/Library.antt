@@ -2,15 +2,16 @@
 -- fault lies, its position, how many answers were stored, how many bytes were written, and the number of a record of a list that can't be read.
 -- A call that gives a number other than 0 has stored nothing but the report. Assumes nothing.
 use Prim.Native.Nat.{ℕ, _*_}
-use mathlib.Core.Bool.{cond}
+use mathlib.Core.Bool.{Bool, true, false, cond}
 use mathlib.Core.List.{List, [], _∷_}
 use lib.Dec.{leb, eqb}
 use lib.ListN.{length, replicate}
 use lib.Seq.{sets}
-use Rattle.model.specs.Request.{run}
+use Rattle.model.specs.Request.{Outcome, done, refused, run}
 use Rattle.model.specs.Answers.{replyWidth}
-use Rattle.model.specs.Seats.{Matrix, seats, noThings}
+use Rattle.model.specs.Seats.{Matrix, matrixOf, seats, noThings}
 use Rattle.model.specs.declared.Scheme.{Scheme}
+use Rattle.model.specs.declared.Things.{Things}
 use Rattle.records.specs.Writing.{placed}
 use Rattle.records.specs.declared.Reading.{Reading}
 use Rattle.records.specs.declared.Reading.the-variants.{Done, Refused}
@@ -18,11 +19,12 @@ use Rattle.records.specs.declared.Writing.{Writing}
 use Rattle.records.specs.declared.Writing.the-variants as writing
 use Rattle.scheme_bytes.specs.Answers.{readScheme}
 use Rattle.matrix_bytes.specs.Answers.{readMatrix}
-use Rattle.matrix_bytes.specs.Write.{matrixBytes}
+use Rattle.matrix_bytes.specs.Write.{matrixBytes, writeMatrix}
 use Rattle.matrix_bytes.specs.declared.answers.MatrixAnswer.{MatrixAnswer}
 use Rattle.request_bytes.specs.Write.{writeRequest}
 use Rattle.request_list.specs.List.{Listed, readList}
 use Rattle.engine.specs.List.{repliesTo}
+use Rattle.hold.specs.Marking.{markThing}
 use Rattle.convert.specs.Convert.{convertSchemeInto, convertMatrixInto}
 use Rattle.model.specs.Arrays.{noScheme}
 
@@ -142,17 +144,36 @@ abbrev pub wrote : ℕ → Writing × List ℕ → Wrote
 wrote other w = record { called = writingBy other (w .0); out = w .1 }
 
 -- refused: nothing is stored
-abbrev pub notConverted : List ℕ → ℕ → ℕ → ℕ → Wrote
-notConverted out k where′ at = record { called = notRead k where′ at; out = out }
+abbrev pub notWritten : List ℕ → ℕ → ℕ → ℕ → Wrote
+notWritten out k where′ at = record { called = notRead k where′ at; out = out }
 
 unfoldable pub convertSchemeBytes : List ℕ → List ℕ → Wrote
-convertSchemeBytes scheme out = withScheme (notConverted out) scheme (λ s n. wrote 1 (convertSchemeInto out s))
+convertSchemeBytes scheme out = withScheme (notWritten out) scheme (λ s n. wrote 1 (convertSchemeInto out s))
 
 unfoldable pub convertAgainst : List ℕ → List ℕ → Scheme → Wrote
-convertAgainst matrix out s = withMatrix (notConverted out) s matrix (λ m k. wrote 1 (convertMatrixInto out s m))
+convertAgainst matrix out s = withMatrix (notWritten out) s matrix (λ m k. wrote 1 (convertMatrixInto out s m))
 
 unfoldable pub convertMatrixBytes : List ℕ → List ℕ → List ℕ → Wrote
-convertMatrixBytes scheme matrix out = withScheme (notConverted out) scheme (λ s n. convertAgainst matrix out s)
+convertMatrixBytes scheme matrix out = withScheme (notWritten out) scheme (λ s n. convertAgainst matrix out s)
+
+-- ---- hold and release: 12 lies in the matrix, at 0; 9 in the output
+
+-- the matrix with the mark
+unfoldable pub markedInto : List ℕ → Scheme → List ℕ → Outcome Things → Wrote
+markedInto out s cells (done th) = wrote 2 (writeMatrix out s (matrixOf th cells))
+markedInto out s cells (refused r) = notWritten out (r .number) 2 0
+
+unfoldable pub markAgainst : Bool → List ℕ → ℕ → List ℕ → Scheme → Wrote
+markAgainst mark matrix id out s = withMatrix (notWritten out) s matrix (λ m k. markedInto out s (m .cells) (markThing mark id (m .things)))
+
+unfoldable pub markBytes : Bool → List ℕ → List ℕ → ℕ → List ℕ → Wrote
+markBytes mark scheme matrix id out = withScheme (notWritten out) scheme (λ s n. markAgainst mark matrix id out s)
+
+abbrev pub holdBytes : List ℕ → List ℕ → ℕ → List ℕ → Wrote
+holdBytes = markBytes true
+
+abbrev pub releaseBytes : List ℕ → List ℕ → ℕ → List ℕ → Wrote
+releaseBytes = markBytes false
 
 -- ---- writing a request behind others: 4 above 8 ids, then 9; what is written is the position behind it
 unfoldable pub requestBytes : List ℕ → ℕ → ℕ → List ℕ → Wrote
@@ -160,4 +181,4 @@ requestBytes out at command ids = wrote 3 (writeRequest out at command ids)
 
 -- ---- the library's version: it moves when a format or a function's meaning moves
 abbrev pub version : ℕ
-version = 5
+version = 6

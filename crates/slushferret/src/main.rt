@@ -5,6 +5,7 @@ mod output;
 mod said;
 mod tool_check;
 mod tool_convert;
+mod tool_hold;
 mod tool_run;
 mod tools;
 mod words;

@@ -4,20 +4,25 @@ use crate::said::tell;
 use crate::said::tell_of;
 use crate::tool_check;
 use crate::tool_convert;
+use crate::tool_hold;
 use crate::tool_run;
+use crate::words::ID;
 use crate::words::TOOL;
 use crate::words::are_usable;
 use crate::words::file_count;
+use crate::words::is_id;
 use check::same;
 
 enum Errand {
     Check,
     Run,
     Convert,
+    Hold,
+    Release,
     None,
 }
 
-// What a tool does, how many files it takes, and how many of these are outputs.
+// What a tool does, how many files it takes, an id counted with them, and how many of these are outputs.
 struct Tool {
     errand: Errand,
     fewest: usize,
@@ -44,6 +49,12 @@ fn tool_named(name: &[u8]) -> Tool {
     if same(name, b"convert") {
         return made(Errand::Convert, 4, 4, 2);
     }
+    if same(name, b"hold") {
+        return made(Errand::Hold, 4, 4, 1);
+    }
+    if same(name, b"release") {
+        return made(Errand::Release, 4, 4, 1);
+    }
     made(Errand::None, 0, 0, 0)
 }
 
@@ -52,6 +63,8 @@ fn carry_out(errand: Errand) -> Status {
         Errand::Check => tool_check::check(),
         Errand::Run => tool_run::run(),
         Errand::Convert => tool_convert::convert(),
+        Errand::Hold => tool_hold::hold(true),
+        Errand::Release => tool_hold::hold(false),
         Errand::None => Status::WrongUse,
     }
 }
@@ -67,6 +80,21 @@ fn tell_tools() {
     tell(
         b"  convert SCHEME MATRIX ROBOT-SCHEME ROBOT-MATRIX   writes both as the robots have them, without tests of absence\n",
     );
+    tell(
+        b"  hold SCHEME MATRIX ID OUT                         puts the thing with this id on hold and writes the matrix afterwards\n",
+    );
+    tell(
+        b"  release SCHEME MATRIX ID OUT                      releases the thing with this id and writes the matrix afterwards\n",
+    );
+}
+
+// Whether an id stands where a tool takes one.
+fn has_its_id(errand: Errand) -> bool {
+    match errand {
+        Errand::Hold => is_id(ID),
+        Errand::Release => is_id(ID),
+        _ => true,
+    }
 }
 
 // Whether the words are as the tool takes them; if not, why is told.
@@ -83,7 +111,7 @@ fn fits(name: &[u8], tool: Tool) -> bool {
         tell_of(name, b": takes another number of files\n");
         return false;
     }
-    are_usable(tool.outputs)
+    are_usable(tool.outputs) && has_its_id(errand)
 }
 
 pub(crate) fn start() -> Status {

@@ -1,8 +1,10 @@
-// The words that the program was started with: the tool's name, then its files. A file goes by the number of its word; outputs are the last ones.
+// The words that the program was started with: the tool's name, then its files; an id may stand among them. A file goes by the number of its word; outputs
+// are the last ones.
 use crate::said::put_name;
 use crate::said::room;
 use crate::said::tell_of;
 use check::same;
+use lines::IdWord;
 
 pub(crate) const TOOL: usize = 1;
 
@@ -10,6 +12,9 @@ pub(crate) const TOOL: usize = 1;
 pub(crate) const SCHEME: usize = 2;
 
 pub(crate) const MATRIX: usize = 3;
+
+// Where a tool takes an id, it stands behind these.
+pub(crate) const ID: usize = 4;
 
 // How many files were named.
 pub(crate) fn file_count() -> usize {
@@ -57,6 +62,21 @@ fn clashes(output: usize, word: usize) -> bool {
         return true;
     }
     false
+}
+
+pub(crate) fn id_word(word: usize) -> IdWord {
+    let mut name = io::buffer();
+    let n = os::arg(word, &mut name);
+    lines::id_in(&name[..n])
+}
+
+// Whether a word is an id; if not, that is told.
+pub(crate) fn is_id(word: usize) -> bool {
+    let IdWord::Id(_) = id_word(word) else {
+        tell_word(word, b": not an id of one to five digits\n");
+        return false;
+    };
+    true
 }
 
 fn is_whole(word: usize) -> bool {

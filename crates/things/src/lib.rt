@@ -5,7 +5,6 @@ ghost use mathlib.Core.Path.{_≡_};
 ghost use lib.ListN.{take};
 ghost use Prim.Native.Nat.{max};
 ghost use lib.Seq.{sets};
-ghost use Rattle.model.specs.Request.{ofType};
 ghost use Rattle.model.specs.Seats.{find, noThings, putThing};
 
 // Every seat is free, and there never was a thing.
@@ -15,6 +14,7 @@ pub fn no_things() -> Things
     Things {
         ids: [0; Things::LIMIT],
         types: [ThingType(0); Things::LIMIT],
+        marks: [false; Things::LIMIT],
         highest: 0,
     }
 }
@@ -51,16 +51,17 @@ fn larger(a: u16, b: u16) -> u16
     if a < b { b } else { a }
 }
 
-// At a seat sits a thing of a type as it is created, and the highest id is at least its own; past the last seat nobody sits, and no more than the highest
+// At a seat sits a thing of a type, on hold or not, and the highest id is at least its own; past the last seat nobody sits, and no more than the highest
 // may change.
-pub fn put_thing(th: Things, i: usize, x: u16, t: ThingType) -> Things
-    ensures { λ r. ⌜ r ≡ putThing i x (ofType t) th ⌝ }
+pub fn put_thing(th: Things, i: usize, x: u16, t: ThingType, mark: bool) -> Things
+    ensures { λ r. ⌜ r ≡ putThing i x (record { type = t; onHold = mark }) th ⌝ }
 {
     let mut next = th;
     next.highest = larger(th.highest, x);
     if i < Things::LIMIT {
         next.ids[i] = x;
         next.types[i] = t;
+        next.marks[i] = mark;
     }
     next
 }

@@ -1,6 +1,6 @@
 -- That every public function of every library crate has a tight contract: of each, how its ending is read off what the equation `p` determines. The result
 -- comes first, then a place for each parameter: what was lent, or `tt`; `z` fills in behind the last that was lent. Assumes nothing.
-use Rattle.tight.specs.Functions.{Rights, Accepted, Things, Records, AcceptedMatrix, CommandBytes, SchemeBytes, SchemeWrite, MatrixRecords, MatrixBytes, MatrixWrite, RequestBytes, RequestList, Plan, Engine, Totals, Convert, Lines, Printout, Robot}
+use Rattle.tight.specs.Functions.{Rights, Accepted, Things, Records, AcceptedMatrix, CommandBytes, SchemeBytes, SchemeWrite, MatrixRecords, MatrixBytes, MatrixWrite, RequestBytes, RequestList, Plan, Engine, Hold, Totals, Convert, Lines, Printout, Robot}
 use Rattle.tight.proofs.General.{equation}
 
 pub rights : (M : Type 1) → Rights M
@@ -158,6 +158,13 @@ engine M = record {
   RunAnswer-number = equation (λ κs a z w p i. (p i, z .1));
 }
 
+pub hold : (M : Type 1) → Hold M
+hold M = record {
+  mark-thing = equation (λ κs a z w p i. (p i, z .1));
+  release = equation (λ κs a z w p i. (p i, z .1));
+  hold = equation (λ κs a z w p i. (p i, z .1));
+}
+
 pub totals : (M : Type 1) → Totals M
 totals M = record {
   totals = equation (λ κs a z w p i. (p i, z .1));
@@ -177,6 +184,7 @@ lines M = record {
   put-decimal = equation (λ κs a z w p i. (p i .0, (p i .1, z .1 .1)));
   put-number = equation (λ κs a z w p i. (p i .0, (p i .1, z .1 .1)));
   put-line = equation (λ κs a z w p i. (p i .0, (p i .1, z .1 .1)));
+  id-in = equation (λ κs a z w p i. (p i, z .1));
 }
 
 pub printout : (M : Type 1) → Printout M
@@ -191,6 +199,8 @@ robot M = record {
   slushferret-check-scheme = equation (λ κs a z w p i. (p i .0, (tt, (p i .1, z .1 .1 .1))));
   slushferret-convert-matrix = equation (λ κs a z w p i. (p i .0, (tt, (tt, (p i .1, (p i .2, z .1 .1 .1 .1 .1))))));
   slushferret-convert-scheme = equation (λ κs a z w p i. (p i .0, (tt, (p i .1, (p i .2, z .1 .1 .1 .1)))));
+  slushferret-hold = equation (λ κs a z w p i. (p i .0, (tt, (tt, (tt, (p i .1, (p i .2, z .1 .1 .1 .1 .1 .1)))))));
+  slushferret-release = equation (λ κs a z w p i. (p i .0, (tt, (tt, (tt, (p i .1, (p i .2, z .1 .1 .1 .1 .1 .1)))))));
   slushferret-run = equation (λ κs a z w p i. (p i .0, (tt, (tt, (tt, (p i .1, (p i .2, (p i .3, z .1 .1 .1 .1 .1 .1 .1))))))));
   slushferret-write-request = equation (λ κs a z w p i. (p i .0, (tt, (tt, (p i .1, (tt, (p i .2, z .1 .1 .1 .1 .1 .1)))))));
   slushferret-version = equation (λ κs a z w p i. (p i, z .1));

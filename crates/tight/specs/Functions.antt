@@ -17,6 +17,7 @@ use Rattle.request_bytes.proofs as request_bytes
 use Rattle.request_list.proofs as request_list
 use Rattle.plan.proofs as plan
 use Rattle.engine.proofs as engine
+use Rattle.hold.proofs as hold
 use Rattle.totals.proofs as totals
 use Rattle.convert.proofs as convert
 use Rattle.lines.proofs as lines
@@ -149,6 +150,12 @@ pub record Engine (M : Type 1) : Type 2 where
   pub request : Tight M engine.request.ended engine.request.clauses
   pub RunAnswer-number : Tight M engine.answers.RunAnswer.number.ended engine.answers.RunAnswer.number.clauses
 
+pub record Hold (M : Type 1) : Type 2 where
+  pub mark-thing : Tight M hold.mark_thing.ended hold.mark_thing.clauses
+  pub release : Tight M hold.release.ended hold.release.clauses
+  -- the last one, since it hides the crate's name
+  pub hold : Tight M hold.hold.ended hold.hold.clauses
+
 pub record Totals (M : Type 1) : Type 2 where
   pub totals : Tight M totals.totals.ended totals.totals.clauses
 
@@ -163,6 +170,7 @@ pub record Lines (M : Type 1) : Type 2 where
   pub put-decimal : Tight M lines.put_decimal.ended lines.put_decimal.clauses
   pub put-number : Tight M lines.put_number.ended lines.put_number.clauses
   pub put-line : Tight M lines.put_line.ended lines.put_line.clauses
+  pub id-in : Tight M lines.«id_in».ended lines.«id_in».clauses
 
 pub record Printout (M : Type 1) : Type 2 where
   pub answers-text : Tight M printout.answers_text.ended printout.answers_text.clauses
@@ -173,6 +181,8 @@ pub record Robot (M : Type 1) : Type 2 where
   pub slushferret-check-scheme : Tight M robot.slushferret_check_scheme.ended robot.slushferret_check_scheme.clauses
   pub slushferret-convert-matrix : Tight M robot.slushferret_convert_matrix.ended robot.slushferret_convert_matrix.clauses
   pub slushferret-convert-scheme : Tight M robot.slushferret_convert_scheme.ended robot.slushferret_convert_scheme.clauses
+  pub slushferret-hold : Tight M robot.slushferret_hold.ended robot.slushferret_hold.clauses
+  pub slushferret-release : Tight M robot.slushferret_release.ended robot.slushferret_release.clauses
   pub slushferret-run : Tight M robot.slushferret_run.ended robot.slushferret_run.clauses
   pub slushferret-write-request : Tight M robot.slushferret_write_request.ended robot.slushferret_write_request.clauses
   pub slushferret-version : Tight M robot.slushferret_version.ended robot.slushferret_version.clauses

@@ -6,9 +6,12 @@ pub const ANSWER_BYTES: usize = 3;
 /// The test's place with every number but 14.
 const NO_TEST: u8 = 255;
 
+/// The number of a request that names a thing on hold: it may be carried out once the thing is released.
+pub const ON_HOLD: u8 = 18;
+
 #[derive(Clone, Copy, Debug, PartialEq, Eq)]
 pub struct Answer {
-    /// 0, or 10 to 17.
+    /// 0, or 10 to 18.
     pub number: u8,
     /// With 14 the place, from 0, of the command's first test that doesn't hold.
     pub test: Option<u8>,

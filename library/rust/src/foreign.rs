@@ -55,6 +55,30 @@ extern "C" {
         report_length: usize,
     ) -> u8;
 
+    fn slushferret_hold(
+        scheme: *const u8,
+        scheme_length: usize,
+        matrix: *const u8,
+        matrix_length: usize,
+        id: u16,
+        out: *mut u8,
+        out_length: usize,
+        report: *mut usize,
+        report_length: usize,
+    ) -> u8;
+
+    fn slushferret_release(
+        scheme: *const u8,
+        scheme_length: usize,
+        matrix: *const u8,
+        matrix_length: usize,
+        id: u16,
+        out: *mut u8,
+        out_length: usize,
+        report: *mut usize,
+        report_length: usize,
+    ) -> u8;
+
     fn slushferret_write_request(
         command: u8,
         ids: *const u16,
@@ -196,6 +220,37 @@ pub fn convert_matrix(scheme: &[u8], matrix: &[u8], out: &mut [u8], report: &mut
             scheme.len(),
             matrix.as_ptr(),
             matrix.len(),
+            out.as_mut_ptr(),
+            out.len(),
+            report.as_mut_ptr(),
+            report.len(),
+        )
+    }
+}
+
+/// Holds or releases: both are lent the same.
+pub fn mark(
+    held: bool,
+    scheme: &[u8],
+    matrix: &[u8],
+    id: u16,
+    out: &mut [u8],
+    report: &mut Report,
+) -> u8 {
+    let report = &mut report.numbers;
+    let call = if held {
+        slushferret_hold
+    } else {
+        slushferret_release
+    };
+    // SAFETY: as in `convert_scheme`.
+    unsafe {
+        call(
+            scheme.as_ptr(),
+            scheme.len(),
+            matrix.as_ptr(),
+            matrix.len(),
+            id,
             out.as_mut_ptr(),
             out.len(),
             report.as_mut_ptr(),

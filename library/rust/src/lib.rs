@@ -8,7 +8,7 @@ mod answer;
 mod foreign;
 mod refusal;
 
-pub use answer::{Answer, ANSWER_BYTES};
+pub use answer::{Answer, ANSWER_BYTES, ON_HOLD};
 pub use refusal::{Place, Refusal};
 
 use foreign::Report;
@@ -40,7 +40,7 @@ impl Run {
 }
 
 /// The version of the interface that this wrapper was written for.
-pub const VERSION: u32 = 5;
+pub const VERSION: u32 = 6;
 
 /// The version that the linked archive has: another one than `VERSION` means that the two don't belong together.
 pub fn version() -> u32 {
@@ -94,11 +94,28 @@ pub fn convert_scheme(scheme: &[u8], out: &mut [u8]) -> Result<usize, Refusal> {
     report.result(number).map(|()| report.written())
 }
 
-/// Writes the converted matrix, given the scheme before its conversion, and gives its length. Each byte is stored to
-/// once (counted, not proved). On an error the buffer is as it was.
+/// Writes the converted matrix, given the scheme before its conversion, and gives its length. What is on hold stays on
+/// hold. Each byte is stored to once (counted, not proved). On an error the buffer is as it was.
 pub fn convert_matrix(scheme: &[u8], matrix: &[u8], out: &mut [u8]) -> Result<usize, Refusal> {
     let mut report = Report::new();
     let number = foreign::convert_matrix(scheme, matrix, out, &mut report);
+    report.result(number).map(|()| report.written())
+}
+
+/// Puts the thing with this id on hold: it keeps its rights and takes part in no request (`ON_HOLD`). Writes the matrix
+/// afterwards, and gives its length; if the thing is on hold already, that is the matrix as it was. On an error the buffer
+/// is as it was.
+pub fn hold(scheme: &[u8], matrix: &[u8], id: u16, out: &mut [u8]) -> Result<usize, Refusal> {
+    let mut report = Report::new();
+    let number = foreign::mark(true, scheme, matrix, id, out, &mut report);
+    report.result(number).map(|()| report.written())
+}
+
+/// Releases the thing with this id: it isn't on hold any more. Writes the matrix afterwards, and gives its length; if the
+/// thing wasn't on hold, that is the matrix as it was. On an error the buffer is as it was.
+pub fn release(scheme: &[u8], matrix: &[u8], id: u16, out: &mut [u8]) -> Result<usize, Refusal> {
+    let mut report = Report::new();
+    let number = foreign::mark(false, scheme, matrix, id, out, &mut report);
     report.result(number).map(|()| report.written())
 }
 

@@ -16,7 +16,7 @@ pub enum Place {
 
 #[derive(Clone, Copy, Debug, PartialEq, Eq)]
 pub struct Refusal {
-    /// The outline's number: 1 to 9, or 20 to 22.
+    /// The outline's number: 1 to 9, 20 to 22, or 12 where no thing has the id that `hold` or `release` is given.
     pub number: u8,
     pub place: Place,
     /// The position of the record at fault; 0 where none is meant.

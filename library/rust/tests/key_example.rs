@@ -1,8 +1,8 @@
 //! The outline's key example through the wrapper: each function once with success and once refused.
 
 use slushferret::{
-    check_matrix, check_scheme, convert_matrix, convert_scheme, highest_id, run, version,
-    write_request, Answer, Place, Refusal, ANSWER_BYTES, VERSION,
+    check_matrix, check_scheme, convert_matrix, convert_scheme, highest_id, hold, release, run,
+    version, write_request, Answer, Place, Refusal, ANSWER_BYTES, ON_HOLD, VERSION,
 };
 
 const SCHEME: [u8; 47] = [
@@ -116,6 +116,64 @@ fn refused_calls_store_nothing() {
     let written = write_request(LOAD, &[9, 12], &mut short, usize::MAX);
     assert_eq!(written, Err(refusal(9, Place::Output, 0)));
     assert_eq!(short, [99; 54]);
+}
+
+/// The matrix with the robot 12 on hold: its record is of kind 8 and not of kind 4.
+fn with_robot_on_hold() -> [u8; 61] {
+    let mut bytes = MATRIX;
+    assert_eq!(bytes[22..29], [3, 0, 4, 0, 12, 0, 2]);
+    bytes[24] = 8;
+    bytes
+}
+
+#[test]
+fn a_thing_on_hold_takes_part_in_nothing() {
+    let mut held = [0; 61];
+    assert_eq!(hold(&SCHEME, &MATRIX, 12, &mut held), Ok(61));
+    assert_eq!(held, with_robot_on_hold());
+    let (mut answers, mut after) = ([99; 3 * ANSWER_BYTES], [0; 77]);
+    let ran = run(&SCHEME, &held, &requests(), &mut answers, &mut after).unwrap();
+    let on_hold = answer(ON_HOLD, None, 0);
+    let stored = [on_hold, answer(0, None, 2), on_hold];
+    assert!(ran.stored(&answers).eq(stored));
+
+    // the robot gets its converted matrix with the mark
+    let mut converted = [0; 125];
+    assert_eq!(convert_matrix(&SCHEME, &held, &mut converted), Ok(125));
+    assert_eq!(converted[22..29], held[22..29]);
+
+    let mut released = [0; 61];
+    assert_eq!(release(&SCHEME, &held, 12, &mut released), Ok(61));
+    assert_eq!(released, MATRIX);
+}
+
+#[test]
+fn a_mark_that_stands_already_stays() {
+    let mut same = [0; 61];
+    assert_eq!(hold(&SCHEME, &with_robot_on_hold(), 12, &mut same), Ok(61));
+    assert_eq!(same, with_robot_on_hold());
+    assert_eq!(release(&SCHEME, &MATRIX, 12, &mut same), Ok(61));
+    assert_eq!(same, MATRIX);
+}
+
+#[test]
+fn refused_marks_store_nothing() {
+    let calls = [hold, release];
+    for call in calls {
+        let mut out = [99; 61];
+        let short = &mut out[..60];
+        let cut = call(&SCHEME[..46], &MATRIX[..60], 13, short);
+        assert_eq!(cut, Err(refusal(1, Place::Scheme, 26)));
+        let cut = call(&SCHEME, &MATRIX[..60], 13, short);
+        assert_eq!(cut, Err(refusal(1, Place::Matrix, 45)));
+        for id in [0, 13, u16::MAX] {
+            let unknown = call(&SCHEME, &MATRIX, id, short);
+            assert_eq!(unknown, Err(refusal(12, Place::Matrix, 0)));
+        }
+        let too_long = call(&SCHEME, &MATRIX, 12, short);
+        assert_eq!(too_long, Err(refusal(9, Place::Output, 0)));
+        assert_eq!(out, [99; 61]);
+    }
 }
 
 /// One right, two types, of which managers are subjects. Command 0 creates a key for a manager, command 1 destroys it.

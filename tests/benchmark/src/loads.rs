@@ -36,6 +36,13 @@ impl Load {
         let length = 4 + usize::from(u16::from_le_bytes([self.requests[0], self.requests[1]]));
         &self.requests[..length]
     }
+
+    /// As many things come before it as after it, or one more.
+    pub fn middle_thing(&self) -> u16 {
+        let things = self.matrix.things();
+        let id = things.keys().nth(things.len() / 2);
+        *id.expect("a load has things")
+    }
 }
 
 /// The outline's key example: its seven requests, a thousand times.

@@ -24,7 +24,11 @@ fn main() {
         "best of {} rounds in turns, one process; buffers are lent as the call before left them, not cleared",
         table::ROUNDS
     );
+    print_requests();
+    print_calls();
+}
 
+fn print_requests() {
     let mut table = Table::new("ns a request, in a list of 7,000");
     for (name, load) in [
         ("(a) the key example's seven requests", loads::key_list()),
@@ -40,7 +44,9 @@ fn main() {
         list(&mut table, name, &load);
     }
     table.print();
+}
 
+fn print_calls() {
     let mut table = Table::new("µs a call, on the bytes");
     let (key, largest) = (loads::key_list(), loads::largest());
     let convertible = loads::largest_convertible();
@@ -60,6 +66,7 @@ fn main() {
     );
     one_request(&mut table, "the key matrix", &key);
     one_request(&mut table, "the largest matrix", &largest);
+    hold(&mut table, "the largest matrix", &largest);
     write(&mut table);
     table.print();
 }
@@ -148,6 +155,22 @@ fn one_request(table: &mut Table, matrix: &str, load: &Load) {
         &format!("run one request on {matrix}"),
         &mut || ours.run(load, request),
         &mut || theirs::one_request(s, m, request),
+    );
+}
+
+/// Scheme and matrix read and checked, the thing in the middle put on hold, the matrix written.
+fn hold(table: &mut Table, matrix: &str, load: &Load) {
+    let (s, m) = (&load.scheme_bytes, &load.matrix_bytes);
+    let id = load.middle_thing();
+    let mut out = vec![0; slushferret::MATRIX_BYTES];
+    let wanted = theirs::hold(s, m, id);
+    assert_ne!(wanted, *m, "the thing isn't on hold before");
+    assert_eq!(slushferret::hold(s, m, id, &mut out), Ok(wanted.len()));
+    assert_eq!(out[..wanted.len()], wanted, "the matrices differ");
+    table.calls(
+        &format!("hold a thing of {matrix}, {} bytes", m.len()),
+        &mut || slushferret::hold(s, m, id, &mut out),
+        &mut || theirs::hold(s, m, id),
     );
 }
 

@@ -3,6 +3,7 @@
 use independent::answer::Answer;
 use independent::convert;
 use independent::engine::Dense;
+use independent::hold::mark;
 use independent::matrix::{read_matrix, write_matrix, Matrix};
 use independent::scheme::{read_scheme, write_scheme, Scheme};
 
@@ -26,6 +27,12 @@ pub fn convert_matrix(scheme_bytes: &[u8], bytes: &[u8]) -> Vec<u8> {
     let converted = convert::convert_scheme(&scheme).expect("the load converts");
     let matrix = convert::convert_matrix(&matrix, &scheme).expect("the load converts");
     write_matrix(&matrix, &converted)
+}
+
+pub fn hold(scheme_bytes: &[u8], bytes: &[u8], id: u16) -> Vec<u8> {
+    let (scheme, matrix) = matrix(scheme_bytes, bytes);
+    let marked = mark(&matrix, id, true).expect("the load has the thing");
+    write_matrix(&marked, &scheme)
 }
 
 /// The answer's bytes, and the matrix afterwards.

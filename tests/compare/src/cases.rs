@@ -40,6 +40,7 @@ fn bytes(case: &Case, edges: bool) -> Vec<u8> {
         case.room,
         usize::from(edges),
         case.direct.len(),
+        case.marks.len(),
     ];
     for length in lengths {
         let length = u32::try_from(length).expect("the parts of a case are short");
@@ -54,6 +55,10 @@ fn bytes(case: &Case, edges: bool) -> Vec<u8> {
         for id in ids {
             bytes.extend(id.to_le_bytes());
         }
+    }
+    for (id, held) in &case.marks {
+        bytes.extend(id.to_le_bytes());
+        bytes.push(u8::from(*held));
     }
     bytes
 }

@@ -6,10 +6,10 @@ use std::fmt;
 use independent::answer::{Answer, MOST_STEPS};
 use independent::refusal::{Fault, Found};
 use independent::scheme::MOST_TESTS;
-use independent::statistics::{Highest, Met};
 
 use crate::list::Carried;
 use crate::told::{Call, Told};
+use crate::ways::Ways;
 
 /// The outline's numbers.
 const LAST: u64 = 27;
@@ -27,8 +27,8 @@ pub struct Counts {
     /// All requests, by their steps.
     steps: BTreeMap<u8, u64>,
     faults: BTreeMap<Fault, u64>,
-    /// What the highest id decided.
-    pub highest: Highest,
+    /// What the highest id and the marks decided.
+    pub ways: Ways,
 }
 
 impl Counts {
@@ -90,10 +90,6 @@ impl fmt::Display for Counts {
             let number = fault.number();
             writeln!(f, "{count} readings met fault {number}: {}", fault.words())?;
         }
-        for &met in Met::ALL {
-            let count = self.highest.count(met);
-            writeln!(f, "{count} times by the highest id, {}", met.words())?;
-        }
-        Ok(())
+        write!(f, "{}", self.ways)
     }
 }

@@ -2,6 +2,7 @@
 
 mod conversion;
 mod direct;
+mod marking;
 mod running;
 
 use independent::generate::Case;
@@ -74,6 +75,7 @@ pub fn expected(case: &Case, edges: bool, counts: &mut Counts) -> Vec<Told> {
     conversion::expect(case, edges, &content, &mut told);
     let matrix = running::expect(case, edges, &content, counts, &mut told);
     direct::expect(case, matrix, counts, &mut told);
+    marking::expect(case, edges, &content, counts, &mut told);
     let inputs = [&case.scheme[..], &case.matrix, &case.requests];
     told.push(Told::inputs(hash_all(&inputs)));
     told
@@ -95,7 +97,7 @@ fn read(case: &Case, counts: &mut Counts) -> Content {
     let matrix = find_matrix(&case.matrix, &scheme);
     counts.reading(&matrix);
     if let Err(found) = matrix {
-        counts.highest.refused_matrix(found, &case.matrix, &scheme);
+        counts.ways.refused_matrix(found, &case.matrix, &scheme);
     }
     Content {
         scheme: Ok(scheme),
@@ -116,6 +118,14 @@ fn check(case: &Case, content: &Content, told: &mut Vec<Told>) {
         Ok(_) => Told::new(call, 0, report([0, case.matrix.len(), 0, 0, 0], WHOLE)),
         Err(refused) => refused.told(call, WHOLE),
     });
+}
+
+/// The case's room and a large buffer; at the edges also just enough, and one byte less.
+fn lengths(room: usize, edges: bool, bytes: &Result<Vec<u8>, Refused>) -> Vec<usize> {
+    match bytes {
+        Ok(bytes) if edges => vec![room, LARGE, bytes.len(), bytes.len() - 1],
+        _ => vec![room, LARGE],
+    }
 }
 
 /// Bytes written at a position, with so many bytes lent; 9 where they end past these.

@@ -1,12 +1,12 @@
 //! A list of requests carried out by the independent program: the answers, and the matrix's bytes after each of the first.
 
 use independent::answer::Answer;
-use independent::engine::carry_out;
 use independent::matrix::{write_matrix, Matrix};
 use independent::refusal::Found;
 use independent::request::find_request;
 use independent::scheme::Scheme;
-use independent::statistics::Highest;
+
+use crate::ways::Ways;
 
 /// So many requests of a list the driver also carries out one by one.
 pub const ONE_BY_ONE: usize = 60;
@@ -25,8 +25,8 @@ pub struct Carried {
     pub ending_alone: Option<Found>,
 }
 
-pub fn carry(scheme: &Scheme, matrix: &Matrix, list: &[u8], highest: &mut Highest) -> Carried {
-    highest.matrix(matrix);
+pub fn carry(scheme: &Scheme, matrix: &Matrix, list: &[u8], ways: &mut Ways) -> Carried {
+    ways.matrix(matrix, scheme);
     let mut matrix = matrix.clone();
     let mut carried = Carried {
         answers: Vec::new(),
@@ -40,7 +40,7 @@ pub fn carry(scheme: &Scheme, matrix: &Matrix, list: &[u8], highest: &mut Highes
     loop {
         match find_request(list, at) {
             Ok(Some((request, next))) => {
-                let answer = counted(scheme, &mut matrix, request.command, &request.ids, highest);
+                let answer = ways.request(scheme, &mut matrix, request.command, &request.ids);
                 carried.answers.push(answer);
                 if carried.after_each.len() < ONE_BY_ONE {
                     carried.after_each.push(write_matrix(&matrix, scheme));
@@ -58,22 +58,6 @@ pub fn carry(scheme: &Scheme, matrix: &Matrix, list: &[u8], highest: &mut Highes
     }
     carried.bytes = write_matrix(&matrix, scheme);
     carried
-}
-
-/// Carries out a request, and counts what the highest id decided in it.
-pub fn counted(
-    scheme: &Scheme,
-    matrix: &mut Matrix,
-    command: u8,
-    ids: &[u16],
-    highest: &mut Highest,
-) -> Answer {
-    let before = matrix.highest();
-    let answer = carry_out(scheme, matrix, command.into(), ids);
-    if let Some(command) = scheme.commands.get(usize::from(command)) {
-        highest.request(command, ids, answer, before, matrix);
-    }
-    answer
 }
 
 /// The bytes that the record at a position says are its own, as far as they are there.

@@ -10,6 +10,7 @@ mod list;
 mod play;
 mod told;
 mod tools;
+mod ways;
 
 use std::env;
 use std::io::{BufReader, BufWriter};

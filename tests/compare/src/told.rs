@@ -32,6 +32,19 @@ pub enum Call {
         out: usize,
         at: usize,
     },
+    /// A hold, or else a release, in the case's matrix.
+    Mark {
+        held: bool,
+        id: u16,
+        out: usize,
+    },
+    /// The same in the matrix that the marks before it left.
+    MarkInTurn {
+        held: bool,
+        id: u16,
+    },
+    /// The list on the matrix that all marks left.
+    RunMarked,
     Inputs,
 }
 
@@ -43,9 +56,14 @@ impl Call {
             Call::CheckMatrix => 2,
             Call::ConvertScheme { .. } => 3,
             Call::ConvertMatrix { .. } => 4,
-            Call::RunList { .. } | Call::RunAlone { .. } | Call::RunDirect { .. } => 5,
+            Call::RunList { .. }
+            | Call::RunAlone { .. }
+            | Call::RunDirect { .. }
+            | Call::RunMarked => 5,
             Call::WriteRequest { .. } => 6,
-            Call::Inputs => 7,
+            Call::Mark { held: true, .. } | Call::MarkInTurn { held: true, .. } => 7,
+            Call::Mark { .. } | Call::MarkInTurn { .. } => 8,
+            Call::Inputs => 9,
         }
     }
 }
@@ -71,8 +89,23 @@ impl fmt::Display for Call {
                 f,
                 "writing the direct request {request} at {at} of {out} bytes"
             ),
+            Call::Mark { held, id, out } => {
+                write!(f, "{} {id} into {out} bytes", mark_words(*held))
+            }
+            Call::MarkInTurn { held, id } => {
+                write!(f, "{} {id} behind the marks before", mark_words(*held))
+            }
+            Call::RunMarked => write!(f, "running the list behind all marks"),
             Call::Inputs => write!(f, "after all calls"),
         }
+    }
+}
+
+fn mark_words(held: bool) -> &'static str {
+    if held {
+        "holding"
+    } else {
+        "releasing"
     }
 }
 

@@ -22,7 +22,7 @@ impl Answer {
     /// So many it takes of a list's buffer.
     pub const BYTES: usize = 3;
 
-    /// 10 to 13, and 27: nothing.
+    /// 10 to 13, 18, and 27: nothing.
     pub fn before_tests(number: u8) -> Answer {
         let (test, steps) = (NO_TEST, 0);
         Answer {

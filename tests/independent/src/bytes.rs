@@ -9,6 +9,8 @@ pub const CELL: u16 = 5;
 pub const REQUEST: u16 = 6;
 /// Kind 3 was a head without the highest id; no reading takes it any more.
 pub const MATRIX_HEAD: u16 = 7;
+/// A thing on hold; its body is that of one that isn't.
+pub const HELD_THING: u16 = 8;
 
 /// A record whose front is checked and whose body is being read field by field.
 pub struct Record<'a> {

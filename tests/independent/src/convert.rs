@@ -89,7 +89,7 @@ fn convert_command(command: &Command, n: u8) -> Command {
     }
 }
 
-/// The matrix of the scheme before conversion; every existing cell gains the partner of each right it lacks. Things and the highest id stay.
+/// The matrix of the scheme before conversion; every existing cell gains the partner of each right it lacks. Things, their marks and the highest id stay.
 pub fn convert_matrix(matrix: &Matrix, scheme: &Scheme) -> Result<Matrix, u8> {
     let number = check(scheme);
     if number != 0 {

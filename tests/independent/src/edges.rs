@@ -10,10 +10,15 @@ mod encoded;
 mod examples;
 mod fields;
 mod forms;
+mod held_plans;
+mod holds;
 mod largest;
 mod lines;
 mod lists;
+mod marked;
+mod marks;
 mod matrices;
+mod on_hold;
 mod parts;
 mod planned;
 mod plans;
@@ -29,6 +34,7 @@ mod tasks;
 mod texts;
 mod things;
 mod values;
+mod words;
 
 pub use lines::{told, Line};
 pub use tasks::Task;
@@ -63,6 +69,12 @@ pub fn cases() -> Vec<Case> {
         plans::cases(),
         texts::cases(),
         sets::cases(),
+        marks::cases(),
+        on_hold::cases(),
+        held_plans::cases(),
+        holds::cases(),
+        marked::cases(),
+        words::cases(),
     ]
     .concat()
 }

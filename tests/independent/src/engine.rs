@@ -8,7 +8,7 @@ use crate::answer::{Answer, NO_TEST};
 use crate::matrix::{Matrix, MOST_THINGS};
 use crate::scheme::{Command, Operation, Scheme, Test};
 
-/// 0 and the changed matrix, or 10 to 17 and no effect at all.
+/// 0 and the changed matrix, or 10 to 18 and no effect at all.
 pub fn carry_out(scheme: &Scheme, matrix: &mut Matrix, command: usize, ids: &[u16]) -> Answer {
     let mut steps = 0;
     let (number, test) = match carried_out(scheme, matrix, command, ids, &mut steps) {
@@ -57,7 +57,7 @@ fn carried_out(
     Ok(after)
 }
 
-/// 12 or 13 for the first place at fault.
+/// 12, 13 or 18 for the first place at fault. What is on hold counts only where it isn't created: a create of it is 15 later.
 fn check_ids(matrix: &Matrix, command: &Command, ids: &[u16]) -> Result<(), u8> {
     for (place, (&id, &kind)) in ids.iter().zip(&command.parameters).enumerate() {
         if id == 0 {
@@ -67,6 +67,7 @@ fn check_ids(matrix: &Matrix, command: &Command, ids: &[u16]) -> Result<(), u8> 
             match matrix.type_of(id) {
                 None => return Err(12),
                 Some(found) if found != kind => return Err(13),
+                Some(_) if matrix.is_held(id) => return Err(18),
                 Some(_) => {}
             }
         }

@@ -3,6 +3,8 @@
 pub mod damage;
 pub mod fields;
 mod ids;
+pub mod kinds;
+pub mod marks;
 pub mod matrices;
 mod places;
 pub mod random;
@@ -24,6 +26,8 @@ pub struct Case {
     pub requests: Vec<u8>,
     /// Requests to hand in directly after the list's, and to write; some have more than 8 ids.
     pub direct: Vec<(u8, Vec<u16>)>,
+    /// Ids to hold (true) and to release, 1 to 4.
+    pub marks: Vec<(u16, bool)>,
     /// The length of an output buffer to write into.
     pub room: usize,
 }
@@ -36,7 +40,9 @@ pub fn case(seed: u64, number: u64) -> Case {
     let random = &mut Random::new(seed, number);
     let mut scheme = schemes::scheme(random);
     let mut matrix = matrices::matrix(random, &scheme);
-    // From a source of its own, so that all other cases are what they would be without it.
+    // From sources of their own, so that all else is what it would be without them.
+    let marking = &mut Random::new(!seed, !number);
+    marks::put(marking, &mut matrix);
     let apart = &mut Random::new(!seed, number);
     let first = match apart.below(TURNS) {
         0 => stops::stops(apart, &mut scheme, &matrix),
@@ -48,6 +54,7 @@ pub fn case(seed: u64, number: u64) -> Case {
         matrix: write_matrix(&matrix, &scheme),
         requests: Vec::new(),
         direct: Vec::new(),
+        marks: Vec::new(),
         room: 0,
     };
     damage_content(random, &mut case);
@@ -59,8 +66,10 @@ pub fn case(seed: u64, number: u64) -> Case {
             matrix = read;
         } else {
             matrix = matrices::matrix(random, &scheme);
+            marks::put(marking, &mut matrix);
         }
     }
+    case.marks = marks::marks(marking, &matrix);
     case.requests = requests::list(random, &scheme, &mut matrix, &first);
     case.direct = requests::direct(random, &scheme, &matrix);
     damage_requests(random, &mut case.requests);
@@ -79,14 +88,18 @@ fn damage_content(random: &mut Random, case: &mut Case) {
         }
         12 if random.chance(1, 8) => case.scheme.clear(),
         12 if random.chance(1, 8) => case.matrix.clear(),
+        13 if random.chance(1, 5) => kinds::held_record(random, &mut case.scheme),
+        13 => kinds::of_matrix(random, &mut case.matrix),
         _ => {}
     }
 }
 
 /// At times the list is damaged, and now and then longer than an input may be.
 fn damage_requests(random: &mut Random, requests: &mut Vec<u8>) {
-    if random.chance(1, 5) {
-        damage::damage(random, requests);
+    match random.below(40) {
+        0..=7 => damage::damage(random, requests),
+        8 => kinds::held_record(random, requests),
+        _ => {}
     }
     if random.chance(1, 300) && !requests.is_empty() {
         *requests = requests.repeat(MOST_INPUT / requests.len() + 1);

@@ -6,6 +6,7 @@ pub mod convert;
 pub mod edges;
 pub mod engine;
 pub mod generate;
+pub mod hold;
 pub mod matrix;
 pub mod print;
 pub mod refusal;

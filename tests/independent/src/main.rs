@@ -9,6 +9,7 @@ use std::{env, fs};
 use independent::convert::{convert_matrix, convert_scheme};
 use independent::edges;
 use independent::generate::case;
+use independent::hold::mark;
 use independent::matrix::{find_matrix, write_matrix, Matrix};
 use independent::print::{bad, list_matrix, list_scheme, play};
 use independent::refusal::Found;
@@ -21,12 +22,14 @@ const EXPECTED: &str = "expected one of
   independent read-matrix SCHEME MATRIX    `ok NEXT` and a listing, or `bad POSITION NUMBER`
   independent convert SCHEME MATRIX OUT-SCHEME OUT-MATRIX
                                            `ok SCHEME-BYTES MATRIX-BYTES`, `bad POSITION NUMBER` or `refused NUMBER`
+  independent hold SCHEME MATRIX ID OUT    `ok MATRIX-BYTES`, `bad POSITION NUMBER` or `refused NUMBER`
+  independent release SCHEME MATRIX ID OUT the same
   independent generate SEED COUNT FOLDER   a numbered folder for each case
-  independent statistics SEED COUNT        how often each refusal comes up, each test that stops a request, each number of steps, and what the
-                                           highest id decides
+  independent statistics SEED COUNT        how often each refusal comes up, each test that stops a request, each number of steps, what the highest
+                                           id decides, and each way to stand to a mark
   independent edges stdin                  the cases of the project's program `edges`, as bytes
   independent edges stdout                 what that program must print
-where SEED and COUNT are numbers from 0 to 18446744073709551615";
+where SEED and COUNT are numbers from 0 to 18446744073709551615, and ID is one from 0 to 65535";
 
 fn main() -> ExitCode {
     let arguments: Vec<String> = env::args().skip(1).collect();
@@ -38,6 +41,10 @@ fn main() -> ExitCode {
         ["convert", scheme, matrix, out_scheme, out_matrix] => {
             run_convert(scheme, matrix, out_scheme, out_matrix)
         }
+        [tool @ ("hold" | "release"), scheme, matrix, id, out] => match id.parse() {
+            Ok(id) => run_mark(scheme, matrix, (id, tool == "hold"), out),
+            Err(_) => return wrong_call("ID must be a number"),
+        },
         ["generate", seed, count, folder] => match (seed.parse(), count.parse()) {
             (Ok(seed), Ok(count)) => run_generate(seed, count, Path::new(folder)),
             _ => return wrong_call("SEED and COUNT must be numbers"),
@@ -118,6 +125,27 @@ fn run_convert(
     }
 }
 
+/// The id is to be held (true) or released.
+fn run_mark(
+    scheme: &str,
+    matrix: &str,
+    (id, held): (u16, bool),
+    out: &str,
+) -> Result<String, String> {
+    let (scheme, matrix) = match read_both(scheme, matrix)? {
+        Ok((scheme, matrix, _)) => (scheme, matrix),
+        Err(found) => return Ok(tell(found)),
+    };
+    match mark(&matrix, id, held) {
+        Ok(marked) => {
+            let bytes = write_matrix(&marked, &scheme);
+            write(out, &bytes)?;
+            Ok(format!("ok {}\n", bytes.len()))
+        }
+        Err(refusal) => Ok(format!("refused {}\n", refusal.number)),
+    }
+}
+
 fn run_generate(seed: u64, count: u64, folder: &Path) -> Result<String, String> {
     for number in 0..count {
         let case = case(seed, number);
@@ -132,6 +160,12 @@ fn run_generate(seed: u64, count: u64, folder: &Path) -> Result<String, String> 
             direct += &format!("{command}{ids}\n");
         }
         write(folder.join("direct.txt"), direct.as_bytes())?;
+        let words = |&(id, held): &(u16, bool)| match held {
+            true => format!("hold {id}\n"),
+            false => format!("release {id}\n"),
+        };
+        let marks: String = case.marks.iter().map(words).collect();
+        write(folder.join("marks.txt"), marks.as_bytes())?;
         write(
             folder.join("room.txt"),
             format!("{}\n", case.room).as_bytes(),

@@ -1,8 +1,9 @@
-//! The matrix as the outline speaks of it: things and existing cells by ids, and the highest id it ever had; with its reader and writer.
+//! The matrix as the outline speaks of it: things, which of them are on hold, and existing cells by ids, and the highest id it ever had; with its
+//! reader and writer.
 
-use std::collections::BTreeMap;
+use std::collections::{BTreeMap, BTreeSet};
 
-use crate::bytes::{put_record, Record, CELL, MATRIX_HEAD, THING};
+use crate::bytes::{put_record, Record, CELL, HELD_THING, MATRIX_HEAD, THING};
 use crate::refusal::{Fault, Found, Refusal};
 use crate::scheme::{Scheme, MOST_RIGHTS};
 
@@ -12,6 +13,8 @@ pub const MOST_THINGS: usize = 48;
 pub struct Matrix {
     /// The type of each thing.
     things: BTreeMap<u16, u8>,
+    /// The things on hold.
+    held: BTreeSet<u16>,
     /// The rights of every cell that exists, empty ones too, by row id and column id.
     cells: BTreeMap<(u16, u16), u64>,
     /// The highest id that a thing ever had; no thing's id is above it.
@@ -44,6 +47,26 @@ impl Matrix {
         self.things.get(&id).copied()
     }
 
+    /// The ids of the things on hold.
+    pub fn on_hold(&self) -> &BTreeSet<u16> {
+        &self.held
+    }
+
+    /// Whether a thing is on hold; what doesn't exist isn't.
+    pub fn is_held(&self, id: u16) -> bool {
+        self.held.contains(&id)
+    }
+
+    /// Marks a thing that exists, or takes its mark away.
+    pub fn set_held(&mut self, id: u16, held: bool) {
+        assert!(self.things.contains_key(&id), "the thing exists");
+        if held {
+            self.held.insert(id);
+        } else {
+            self.held.remove(&id);
+        }
+    }
+
     /// The rights of a cell, if the cell exists.
     pub fn cell(&self, row: u16, column: u16) -> Option<u64> {
         self.cells.get(&(row, column)).copied()
@@ -54,7 +77,8 @@ impl Matrix {
         *self.cells.get_mut(&(row, column)).expect("the cell exists") = rights;
     }
 
-    /// Adds a thing with empty cells: row and column for a subject type, column otherwise. Its id is the highest, if none was higher.
+    /// Adds a thing that isn't on hold, with empty cells: row and column for a subject type, column otherwise. Its id is the highest, if none was
+    /// higher.
     pub fn create(&mut self, scheme: &Scheme, id: u16, kind: u8) {
         let old = self.things.insert(id, kind);
         assert!(old.is_none(), "the id is free");
@@ -69,9 +93,10 @@ impl Matrix {
         }
     }
 
-    /// Takes a thing and all its cells away; the highest id stays.
+    /// Takes a thing, its mark and all its cells away; the highest id stays.
     pub fn destroy(&mut self, id: u16) {
         self.things.remove(&id).expect("the thing exists");
+        self.held.remove(&id);
         self.cells
             .retain(|&(row, column), _| row != id && column != id);
     }
@@ -101,10 +126,12 @@ pub fn find_matrix(input: &[u8], scheme: &Scheme) -> Result<Matrix, Found> {
     matrix.raise_highest(highest);
     let mut last_id = 0;
     for _ in 0..things {
-        let thing = Record::read(input, at, THING)?;
+        let thing = Record::read_of(input, at, is_thing)?;
         at = thing.next;
+        let held = thing.kind == HELD_THING;
         let (id, kind) = read_thing(thing, scheme, last_id, highest)?;
         matrix.create(scheme, id, kind);
+        matrix.set_held(id, held);
         last_id = id;
     }
 
@@ -135,7 +162,20 @@ pub fn read_head(mut head: Record, scheme: &Scheme) -> Result<(u8, u16), Found> 
     Ok((things, highest))
 }
 
-/// A thing's id and type, behind a thing with this id, 0 for none, where the head stated this highest id.
+/// The kinds that may stand at a thing's place.
+pub fn is_thing(kind: u16) -> bool {
+    kind == THING || kind == HELD_THING
+}
+
+/// The kind of a thing's record, by its mark.
+pub fn thing_kind(held: bool) -> u16 {
+    match held {
+        true => HELD_THING,
+        false => THING,
+    }
+}
+
+/// A thing's id and type, of either kind, behind a thing with this id, 0 for none, where the head stated this highest id.
 pub fn read_thing(
     mut thing: Record,
     scheme: &Scheme,
@@ -185,7 +225,11 @@ pub fn write_matrix(matrix: &Matrix, scheme: &Scheme) -> Vec<u8> {
     put_record(&mut out, MATRIX_HEAD, &head);
     for (id, kind) in &matrix.things {
         let [low, high] = id.to_le_bytes();
-        put_record(&mut out, THING, &[low, high, *kind]);
+        put_record(
+            &mut out,
+            thing_kind(matrix.is_held(*id)),
+            &[low, high, *kind],
+        );
     }
     for ((row, column), rights) in &matrix.cells {
         if *rights != 0 {

@@ -125,11 +125,12 @@ pub fn list_scheme(scheme: &Scheme) -> String {
     text
 }
 
-/// A matrix for people: the highest id it ever had, its things, then its nonempty cells.
+/// A matrix for people: the highest id it ever had, its things and which of them are on hold, then its nonempty cells.
 pub fn list_matrix(matrix: &Matrix) -> String {
     let mut text = format!("highest id {}\n", matrix.highest());
     for (id, kind) in matrix.things() {
-        writeln!(text, "thing {id} type {kind}").unwrap();
+        let mark = if matrix.is_held(*id) { " on hold" } else { "" };
+        writeln!(text, "thing {id} type {kind}{mark}").unwrap();
     }
     for ((row, column), rights) in matrix.cells() {
         if *rights != 0 {

@@ -1,9 +1,11 @@
 //! Counts how often each refusal comes up over generated cases, and what ends requests, so that it shows what a comparison covers.
 
 mod answers;
+mod held;
 mod highest;
 
 pub use answers::{Answers, Stands};
+pub use held::{Held, Stood};
 pub use highest::{Highest, Met};
 
 use std::collections::BTreeMap;
@@ -13,6 +15,7 @@ use crate::bytes::store;
 use crate::convert::{convert_matrix, convert_scheme};
 use crate::engine::carry_out;
 use crate::generate::{case, Case};
+use crate::hold::mark;
 use crate::matrix::{find_matrix, write_matrix, Matrix};
 use crate::print::MOST_INPUT;
 use crate::refusal::{Fault, Found};
@@ -27,15 +30,17 @@ pub enum Asked {
     RequestRecord,
     Request,
     Conversion,
+    Marking,
     Writing,
 }
 
-const COLUMNS: [(Asked, &str); 6] = [
+const COLUMNS: [(Asked, &str); 7] = [
     (Asked::Scheme, "scheme"),
     (Asked::Matrix, "matrix"),
     (Asked::RequestRecord, "record"),
     (Asked::Request, "request"),
     (Asked::Conversion, "conversion"),
+    (Asked::Marking, "marking"),
     (Asked::Writing, "writing"),
 ];
 
@@ -45,6 +50,7 @@ pub struct Statistics {
     pub faults: BTreeMap<Fault, u64>,
     pub answers: Answers,
     pub highest: Highest,
+    pub held: Held,
 }
 
 impl Statistics {
@@ -71,12 +77,15 @@ impl Statistics {
         let found = find_matrix(&case.matrix, &scheme);
         if let Err(found) = found {
             self.highest.refused_matrix(found, &case.matrix, &scheme);
+            self.held.refused_matrix(found, &case.matrix);
         }
         let Some(mut matrix) = self.reading(Asked::Matrix, found) else {
             return;
         };
         self.highest.matrix(&matrix);
+        self.held.matrix(&matrix, &scheme);
         self.convert(&scheme, &matrix, case.room);
+        self.mark(&scheme, &matrix, case);
         self.write(&scheme, &matrix, case);
 
         let list = &case.requests[..case.requests.len().min(MOST_INPUT)];
@@ -96,13 +105,15 @@ impl Statistics {
 
     fn request(&mut self, scheme: &Scheme, matrix: &mut Matrix, command: u8, ids: &[u16]) {
         let command = usize::from(command);
-        let before = matrix.highest();
+        let before = matrix.clone();
         let answer = carry_out(scheme, matrix, command, ids);
         self.note(Asked::Request, answer.number);
         let command = scheme.commands.get(command);
         self.answers.add(answer, command);
         if let Some(command) = command {
-            self.highest.request(command, ids, answer, before, matrix);
+            let highest = before.highest();
+            self.highest.request(command, ids, answer, highest, matrix);
+            self.held.request(command, ids, answer, &before, matrix);
         }
     }
 
@@ -118,6 +129,20 @@ impl Statistics {
             .and_then(|matrix| converted.map(|converted| write_matrix(&matrix, &converted)));
         let stored = bytes.and_then(|bytes| store(&bytes, &mut out));
         self.note(Asked::Conversion, stored.err().unwrap_or(0));
+    }
+
+    /// One behind the other, each 12, then 9.
+    fn mark(&mut self, scheme: &Scheme, matrix: &Matrix, case: &Case) {
+        let (mut matrix, mut out) = (matrix.clone(), vec![0; case.room]);
+        for &(id, held) in &case.marks {
+            let marked = mark(&matrix, id, held);
+            self.held.mark(id, held, &matrix, &marked);
+            let bytes = marked.as_ref().map(|marked| write_matrix(marked, scheme));
+            let bytes = bytes.map_err(|refusal| refusal.number);
+            let stored = bytes.and_then(|bytes| store(&bytes, &mut out));
+            self.note(Asked::Marking, stored.err().unwrap_or(0));
+            matrix = marked.unwrap_or(matrix);
+        }
     }
 
     fn write(&mut self, scheme: &Scheme, matrix: &Matrix, case: &Case) {
@@ -161,7 +186,7 @@ impl fmt::Display for Statistics {
         }
         writeln!(out)?;
         for number in 0..=22 {
-            if number != 18 && number != 19 {
+            if number != 19 {
                 write!(out, "{number:>6}")?;
                 for (asked, _) in COLUMNS {
                     write!(out, " {:>10}", self.count(number, asked))?;
@@ -171,6 +196,7 @@ impl fmt::Display for Statistics {
         }
         writeln!(out, "\n{}", self.answers)?;
         writeln!(out, "{}", self.highest)?;
+        writeln!(out, "{}", self.held)?;
         writeln!(out, "number      count fault")?;
         for fault in Fault::ALL {
             writeln!(

@@ -3,6 +3,7 @@
 use std::collections::BTreeMap;
 
 use crate::convert::{check, convert_matrix, convert_scheme};
+use crate::hold::mark;
 use crate::matrix::{read_matrix, write_matrix, Matrix};
 use crate::print::{answers, Columns, MOST_INPUT};
 use crate::refusal::Refusal;
@@ -20,35 +21,62 @@ pub struct Ended {
     pub told: Vec<String>,
 }
 
+/// A use of a tool that isn't wrong, with its files.
+enum Use<'a> {
+    Check(&'a [&'a str]),
+    Run(&'a [&'a str]),
+    Convert(&'a [&'a str]),
+    /// The files without the id between them; hold for true, release for false.
+    Mark([&'a str; 3], u16, bool),
+}
+
 /// Starts the program with these words, the tool's name first.
 pub fn start(words: &[&str], folder: &mut Folder) -> Ended {
-    let (&tool, files) = words.split_first().unwrap_or((&"", &[]));
-    let (counts, outputs) = match tool {
-        "check" => (1..=2, 0),
-        "run" => (4..=4, 1),
-        "convert" => (4..=4, 2),
-        _ => (1..=0, 0),
-    };
     let mut ended = Ended {
         status: 2,
         said: String::new(),
         told: Vec::new(),
     };
-    if !counts.contains(&files.len()) || clash(files, outputs) {
+    let Some(asked) = understood(words) else {
         return ended;
-    }
-    let mut tool_at_work = AtWork {
+    };
+    let mut tool = AtWork {
         folder,
         said: &mut ended.said,
         told: &mut ended.told,
     };
-    let done = match tool {
-        "check" => tool_at_work.check(files),
-        "run" => tool_at_work.run(files),
-        _ => tool_at_work.convert(files),
+    let done = match asked {
+        Use::Check(files) => tool.check(files),
+        Use::Run(files) => tool.run(files),
+        Use::Convert(files) => tool.convert(files),
+        Use::Mark(files, id, held) => tool.mark(files, id, held),
     };
     ended.status = if done.is_some() { 0 } else { 1 };
     ended
+}
+
+/// Nothing for a wrong use.
+fn understood<'a>(words: &'a [&'a str]) -> Option<Use<'a>> {
+    let (&tool, rest) = words.split_first()?;
+    let (asked, clashes) = match (tool, rest) {
+        ("check", [_] | [_, _]) => (Use::Check(rest), false),
+        ("run", [_, _, _, _]) => (Use::Run(rest), clash(rest, 1)),
+        ("convert", [_, _, _, _]) => (Use::Convert(rest), clash(rest, 2)),
+        ("hold" | "release", &[scheme, matrix, id, out]) => {
+            let files = [scheme, matrix, out];
+            let asked = Use::Mark(files, id_in(id.as_bytes())?, tool == "hold");
+            (asked, clash(&files, 1))
+        }
+        _ => return None,
+    };
+    Some(asked).filter(|_| !clashes)
+}
+
+/// The id that one to five digits stand for, zeros in front too; nothing for another word. What no id can be is 0, which no thing has either.
+pub fn id_in(word: &[u8]) -> Option<u16> {
+    let is_number = (1..=5).contains(&word.len()) && word.iter().all(u8::is_ascii_digit);
+    let digits = std::str::from_utf8(word).ok().filter(|_| is_number)?;
+    Some(digits.parse().unwrap_or(0))
 }
 
 /// Two outputs of one name, or a file named as an output with `.new` behind it. Outputs are the last files.
@@ -120,6 +148,15 @@ impl AtWork<'_> {
         let matrix = convert_matrix(&matrix, &scheme).expect("its scheme converts");
         self.write(files[2], write_scheme(&converted));
         self.write(files[3], write_matrix(&matrix, &converted));
+        Some(())
+    }
+
+    fn mark(&mut self, files: [&str; 3], id: u16, held: bool) -> Option<()> {
+        let (scheme, matrix) = (self.load(files[0])?, self.load(files[1])?);
+        let (scheme, matrix) = self.read_both(&files, &scheme, &matrix)?;
+        let marked = mark(&matrix, id, held);
+        let marked = self.read(files[1], marked, "; nothing was written")?;
+        self.write(files[2], write_matrix(&marked, &scheme));
         Some(())
     }
 

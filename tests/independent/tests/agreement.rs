@@ -7,7 +7,9 @@ use std::collections::BTreeSet;
 use common::of_robot;
 use independent::convert::{convert_matrix, convert_scheme};
 use independent::engine::{carry_out, Dense};
-use independent::generate::{case, matrices, random::Random, requests, schemes, steps, stops};
+use independent::generate::{
+    case, marks, matrices, random::Random, requests, schemes, steps, stops,
+};
 use independent::matrix::{read_matrix, write_matrix, Matrix};
 use independent::print::{play, MOST_INPUT};
 use independent::request::{read_request, write_request, Next, Request};
@@ -20,6 +22,7 @@ fn valid(number: u64) -> (Scheme, Matrix, Vec<(u8, Vec<u16>)>) {
     let random = &mut Random::new(SEED, number);
     let mut scheme = schemes::scheme(random);
     let mut matrix = matrices::matrix(random, &scheme);
+    marks::put(random, &mut matrix);
     let first = match number % 4 {
         0 => steps::steps(random, &mut scheme, &mut matrix),
         _ => stops::stops(random, &mut scheme, &matrix),
@@ -95,6 +98,34 @@ fn an_id_is_never_used_again() {
     assert!(
         created > 1_000 && again > 100,
         "{created} created, {again} refused that were gone"
+    );
+}
+
+/// Whatever a list does: marks stay as they are, what is new has none, and what is on hold stays with all its rights but those in things that are gone.
+#[test]
+fn requests_change_no_mark() {
+    let (mut refused, mut beside) = (0, 0);
+    for number in 0..2_000 {
+        let (scheme, mut matrix, list) = valid(number);
+        let held = matrix.on_hold().clone();
+        for (command, ids) in list {
+            let before = matrix.clone();
+            let answer = carry_out(&scheme, &mut matrix, command as usize, &ids);
+            assert_eq!(*matrix.on_hold(), held, "case {number}");
+            let of_held = |(row, column): (u16, u16)| held.contains(&row) || held.contains(&column);
+            for (&place, &rights) in before.cells().iter().filter(|(&place, _)| of_held(place)) {
+                let (row, column) = place;
+                let is_gone = [row, column].map(|id| matrix.type_of(id).is_none());
+                let stays = matrix.cell(row, column) == Some(rights);
+                assert!(stays || is_gone != [false; 2], "case {number}");
+            }
+            refused += usize::from(answer.number == 18);
+            beside += usize::from(answer.number == 0 && !held.is_empty());
+        }
+    }
+    assert!(
+        refused > 1_000 && beside > 1_000,
+        "{refused} refused with 18, {beside} carried out beside things on hold"
     );
 }
 

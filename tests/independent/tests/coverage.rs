@@ -1,12 +1,15 @@
-//! The generator reaches every refusal number, each fault by name, each test's place, each number of steps and all that the highest id decides; a seed
-//! gives the same cases always.
+//! The generator reaches every refusal number, each fault by name, each test's place, each number of steps, all that the highest id decides and each way
+//! to stand to a mark; a seed gives the same cases always.
+
+use std::collections::BTreeSet;
 
 use independent::answer::MOST_STEPS;
 use independent::generate::{case, random::Random, schemes};
 use independent::print::MOST_INPUT;
 use independent::refusal::Fault;
-use independent::scheme::{Operation, Scheme, MOST_TESTS};
-use independent::statistics::{Asked, Met, Stands, Statistics};
+use independent::request::find_request;
+use independent::scheme::{find_scheme, Operation, Scheme, MOST_TESTS};
+use independent::statistics::{Asked, Met, Stands, Statistics, Stood};
 
 const SEED: u64 = 1;
 const COUNT: u64 = 10_000;
@@ -25,8 +28,9 @@ fn every_number_and_every_fault_is_reached() {
     reached(&[0, 1, 2, 3, 4, 5, 6, 8], Asked::Scheme);
     reached(&[0, 1, 2, 3, 4, 5, 6, 7], Asked::Matrix);
     reached(&[0, 1, 2, 3, 4], Asked::RequestRecord);
-    reached(&[0, 10, 11, 12, 13, 14, 15, 16, 17], Asked::Request);
+    reached(&[0, 10, 11, 12, 13, 14, 15, 16, 17, 18], Asked::Request);
     reached(&[0, 9, 20, 21, 22], Asked::Conversion);
+    reached(&[0, 9, 12], Asked::Marking);
     reached(&[0, 4, 9], Asked::Writing);
     for &fault in Fault::ALL {
         assert!(
@@ -40,6 +44,45 @@ fn every_number_and_every_fault_is_reached() {
         let count = statistics.highest.count(met);
         assert!(count > 0, "{}\n{statistics}", met.words());
     }
+    for &stood in Stood::ALL {
+        let count = statistics.held.count(stood);
+        assert!(count > 0, "{}\n{statistics}", stood.words());
+    }
+    assert_few_are_on_hold(&statistics);
+}
+
+/// Where too many requests name a thing on hold the other numbers are hardly met.
+fn assert_few_are_on_hold(statistics: &Statistics) {
+    let requests = |number| statistics.count(number, Asked::Request);
+    let all: u64 = (0..=18).map(requests).sum();
+    assert!(requests(18) * 8 < all, "{statistics}");
+    assert!(requests(0) * 5 > all, "{statistics}");
+}
+
+/// Kind 8 stands as a scheme's head and as a command, as a list's first record and as a later one.
+#[test]
+fn kind_8_stands_in_schemes_and_lists() {
+    let mut stood = [0; 4];
+    for number in 0..COUNT {
+        let case = case(SEED, number);
+        let refused = |bytes: &[u8], at: usize| bytes.get(at + 2..at + 4) == Some(&[8, 0]);
+        if let Err(found) = find_scheme(&case.scheme) {
+            if found.fault == Fault::Kind && refused(&case.scheme, found.at) {
+                stood[usize::from(found.at > 0)] += 1;
+            }
+        }
+        let mut at = 0;
+        let found = loop {
+            match find_request(&case.requests, at) {
+                Ok(Some((_, next))) => at = next,
+                other => break other,
+            }
+        };
+        if found.is_err_and(|found| found.fault == Fault::Kind) && refused(&case.requests, at) {
+            stood[2 + usize::from(at > 0)] += 1;
+        }
+    }
+    assert!(stood.iter().all(|&count| count > 10), "{stood:?}");
 }
 
 /// At each test, after each number of steps and no other, and at each operation that can be faulty, behind tests and behind none.
@@ -66,6 +109,15 @@ fn requests_end_everywhere(statistics: &Statistics) {
             }
         }
     }
+}
+
+#[test]
+fn a_case_has_one_to_four_marks() {
+    let counts = (0..1_000).map(|number| case(SEED, number).marks.len());
+    assert_eq!(
+        counts.collect::<BTreeSet<usize>>(),
+        BTreeSet::from([1, 2, 3, 4])
+    );
 }
 
 #[test]

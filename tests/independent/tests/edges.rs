@@ -327,12 +327,12 @@ fn the_highest_id_is_looked_at_in_its_turn() {
     }
 }
 
-/// A matrix's sum as the program tells it: two numbers a seat, the highest id, two numbers a cell.
+/// A matrix's sum as the program tells it: three numbers a seat, the highest id, two numbers a cell.
 #[test]
 fn the_highest_id_shows_in_the_sum() {
     let key = |highest: u64| {
-        let mut numbers = vec![5, 0, 9, 1, 12, 2];
-        numbers.resize(2 * 48, 0);
+        let mut numbers = vec![5, 0, 0, 9, 1, 0, 12, 2, 0];
+        numbers.resize(3 * 48, 0);
         numbers.push(highest);
         let mut cells = [0; 2 * 2_400];
         cells[2] = 1;
@@ -409,9 +409,16 @@ const FUNCTIONS: &[(&str, &[u8])] = &[
     ("convert::converted_cells", &[0, 20, 21, 22, 27]),
     ("convert::converted_scheme", &[0, 20, 21, 22, 27]),
     ("engine::RunAnswer::number", &[0, 1, 2, 3, 4, 9, 27]),
-    ("engine::request", &[0, 10, 11, 12, 13, 14, 15, 16, 17, 27]),
+    (
+        "engine::request",
+        &[0, 10, 11, 12, 13, 14, 15, 16, 17, 18, 27],
+    ),
     ("engine::run_list", &[0, 1, 2, 3, 4, 9, 27]),
     ("engine::run_quietly", &[0, 1, 2, 3, 4, 27]),
+    ("hold::hold", &[0, 12, 27]),
+    ("hold::mark_thing", &[0, 12]),
+    ("hold::release", &[0, 12, 27]),
+    ("lines::id_in", &[0, 1]),
     ("lines::put_decimal", &[0]),
     ("lines::put_line", &[0]),
     ("lines::put_number", &[0]),
@@ -436,7 +443,7 @@ const FUNCTIONS: &[(&str, &[u8])] = &[
     ("matrix_records::read_thing", &[0, 1, 2, 3, 5, 6, 7, 27]),
     ("matrix_write::write_matrix", &[0, 9, 27]),
     ("matrix_write::write_matrix_by_head", &[0, 9, 27]),
-    ("plan::locate", &[0, 12, 13]),
+    ("plan::locate", &[0, 12, 13, 18]),
     ("plan::plan_all", &[0, 15, 16, 17]),
     ("plan::seat_at", &[0]),
     ("records::Field2::number", &[0, 3]),

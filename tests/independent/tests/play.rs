@@ -1,9 +1,31 @@
-//! What `play` prints where something can't be read, is empty, or is too long.
+//! What `play` prints where something can't be read, is empty, or is too long; and that the stored runs in tests/play are what it prints.
 
 mod common;
 
+use std::fs;
+use std::path::PathBuf;
+
 use common::*;
 use independent::print::{play, MOST_INPUT};
+
+#[test]
+fn the_stored_runs_are_these() {
+    let runs = PathBuf::from(env!("CARGO_MANIFEST_DIR")).join("../play");
+    let mut count = 0;
+    for entry in fs::read_dir(runs).unwrap() {
+        let folder = entry.unwrap().path();
+        if folder.is_dir() {
+            // A missing file is empty input.
+            let [scheme, matrix, requests] = ["scheme.bin", "matrix.bin", "requests.bin"]
+                .map(|name| fs::read(folder.join(name)).unwrap_or_default());
+            let expected = fs::read_to_string(folder.join("expected")).unwrap();
+            let name = folder.display();
+            assert_eq!(play(&scheme, &matrix, &requests), expected, "{name}");
+            count += 1;
+        }
+    }
+    assert!(count >= 13, "{count}");
+}
 
 #[test]
 fn a_bad_scheme_or_matrix_prints_one_line() {

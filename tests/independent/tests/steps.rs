@@ -31,7 +31,7 @@ fn scheme(tests: Vec<Test>, operations: Vec<Operation>) -> Scheme {
 /// Each of a right of its own, by turns for presence and absence.
 fn tests(count: u8) -> Vec<Test> {
     let test = |right: u8| Test {
-        present: right % 2 == 0,
+        present: right & 1 == 0,
         right,
         row: TESTED,
         column: TESTED,

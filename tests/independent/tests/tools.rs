@@ -69,6 +69,81 @@ fn convert_writes_both_or_neither() {
 }
 
 #[test]
+fn hold_and_release_write_the_mark() {
+    let mut held = key();
+    held.get_mut("m").unwrap()[17] = 8;
+    for id in ["9", "09", "00009"] {
+        let after = used(&format!("hold s m {id} m"), key(), 0, "m: 61 bytes\n");
+        assert_eq!(after, held);
+        let again = used(&format!("hold s m {id} m"), after, 0, "m: 61 bytes\n");
+        assert_eq!(again, held);
+        let after = used(&format!("release s m {id} m"), again, 0, "m: 61 bytes\n");
+        assert_eq!(after, key());
+        let again = used(&format!("release s m {id} m"), after, 0, "m: 61 bytes\n");
+        assert_eq!(again, key());
+    }
+    // Into another file, also one that is named like the id; and what was there is replaced.
+    for out in ["a", "9", "s", "q"] {
+        let said = format!("{out}: 61 bytes\n");
+        let after = used(&format!("hold s m 9 {out}"), key(), 0, &said);
+        assert_eq!(after["m"], key()["m"]);
+        assert_eq!(after[out], held["m"]);
+    }
+    // An id is no file's name.
+    let mut odd = key();
+    odd.insert("9.new".to_string(), bytes(KEY_SCHEME));
+    used("hold 9.new m 9 a", odd.clone(), 0, "a: 61 bytes\n");
+    odd.insert("9".to_string(), bytes(KEY_SCHEME));
+    used("hold 9 m 9 9", odd, 0, "9: 61 bytes\n");
+}
+
+#[test]
+fn hold_and_release_refuse_in_their_order() {
+    let refused = "m: refused with number 12 at position 0; nothing was written\n";
+    for id in [
+        "0", "00000", "8", "10", "13", "265", "65535", "65536", "65545", "99999",
+    ] {
+        for tool in ["hold", "release"] {
+            let words = format!("{tool} s m {id} m");
+            assert_eq!(used(&words, key(), 1, refused), key());
+        }
+    }
+    // The scheme's fault, the matrix's, and only then 12.
+    let mut bad = key();
+    bad.get_mut("m").unwrap()[10] = 9;
+    let refused = "m: refused with number 2 at position 8; nothing was written\n";
+    assert_eq!(used("hold s m 99999 a", bad.clone(), 1, refused), bad);
+    bad.get_mut("s").unwrap().push(0);
+    let refused = "s: refused with number 8 at position 47; nothing was written\n";
+    assert_eq!(used("release s m 0 a", bad.clone(), 1, refused), bad);
+
+    let mut folder = key();
+    let ended = start(&["hold", "s", "none", "9", "a"], &mut folder);
+    let refused = "none: refused with number 1 at position 0; nothing was written\n";
+    assert_eq!((ended.status, &ended.said[..]), (1, refused));
+    assert_eq!((ended.told, folder), (vec!["none: ".to_string()], key()));
+}
+
+#[test]
+fn check_and_run_meet_things_on_hold() {
+    let mut held = key();
+    held.get_mut("m").unwrap()[17] = 8;
+    let said = "s: a scheme of 4 rights, 3 types, 2 commands\nm: a matrix of 3 things, 2 cells, 2 entries\n";
+    used("check s m", held.clone(), 0, said);
+    let text = "request command result test steps\n0 1 18 255 0\n1 0 18 255 0\n2 1 18 255 0\n";
+    let after = used(
+        "run s m q m",
+        held.clone(),
+        0,
+        &format!("{text}m: 61 bytes\n"),
+    );
+    assert_eq!(after, held);
+    let said = "a: 55 bytes\nb: 125 bytes\n";
+    let after = used("convert s m a b", held, 0, said);
+    assert_eq!((after["b"][10], after["b"][17], after["b"][24]), (4, 8, 4));
+}
+
+#[test]
 fn all_files_are_loaded_first() {
     let mut folder = key();
     folder.insert("long".to_string(), vec![0; MOST_INPUT + 1]);
@@ -95,6 +170,22 @@ fn wrong_uses_do_nothing() {
         "convert s m a a.new",
         "convert s m a.new a",
         "run s m a.new a",
+        "hold s m 5",
+        "hold s m  a",
+        "hold s m 5 a b",
+        "release s m a",
+        "hold s m -5 a",
+        "hold s m +5 a",
+        "hold s m 5x a",
+        "hold s m 0x5 a",
+        "hold s m 000005 a",
+        "hold s m 100000 a",
+        "release s m a 5",
+        "hold s a.new 5 a",
+        "release a.new m 5 a",
+        "Hold s m 5 a",
+        "hold",
+        "release s",
     ] {
         assert_eq!(used(words, key(), 2, ""), key());
     }

@@ -1,5 +1,4 @@
 -- Each way out is a case of the definition.
-use mathlib.Core.Path.{_∙_}
 use borrow.Author.Needs.{needs}
 use borrow.Author.Tests.{eq-eqb, ne-eqb}
 use Rattle.accepted_matrix.proofs.seat_accepted.Statement.{statement}
@@ -12,7 +11,7 @@ below-requires : tie.Need-below-requires
 below-requires c κs = search needs
 
 returns : tie.Need-returns
-returns c = c .is-zero .ensures ∙ rw (eq-eqb _ _ (c .before .if1 .taken))
+returns c = rw (c .is-zero .ensures, eq-eqb _ _ (c .before .if1 .taken))
 
 returns-2 : tie.Need-returns-2
 returns-2 c = rw (c .below .ensures, ne-eqb _ _ (c .before .if1 .left))

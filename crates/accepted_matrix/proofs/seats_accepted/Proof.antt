@@ -25,6 +25,9 @@ element-copy-out-seat-accepted c = search needs
 element-copy-out-seat-accepted-2 : tie.Need-element-copy-out-seat-accepted-2 Inv-loop μ-loop
 element-copy-out-seat-accepted-2 c = search needs
 
+element-copy-out-seat-accepted-3 : tie.Need-element-copy-out-seat-accepted-3 Inv-loop μ-loop
+element-copy-out-seat-accepted-3 c = search needs
+
 seat-accepted-requires : tie.Need-seat-accepted-requires Inv-loop μ-loop
 seat-accepted-requires c κs = search needs
 
@@ -37,7 +40,7 @@ loop-less c = search needs
 loop-again : tie.Need-loop-again Inv-loop μ-loop
 unfolding acceptedSeat zeroThing thingIn
 loop-again c =
-    let t = c .before .before .before in
+    let t = c .before .before .before .before in
     let l = t .before .loop in
     seats-on _ (l .inv) _ (t .loop-test .taken) (c .seat-accepted .ensures)
 
@@ -54,6 +57,7 @@ seats-accepted-spec =
     mul-seat-accepted
     element-copy-out-seat-accepted
     element-copy-out-seat-accepted-2
+    element-copy-out-seat-accepted-3
     seat-accepted-requires
     add-i
     loop-less

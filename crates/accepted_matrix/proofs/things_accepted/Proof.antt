@@ -1,4 +1,4 @@
--- The two calls are `acceptedThings` but for the number of ids and of types, which is the arrays', and for the highest, which is a u16.
+-- The two calls are `acceptedThings` but for the number of ids, types and marks, which is the arrays', and for the highest, which is a u16.
 use mathlib.Core.Path.{_≡_}
 use lib.ListN.{length}
 use borrow.Author.Needs.{needs}
@@ -23,8 +23,9 @@ returns c =
     let th = c .before .before .before .args .th in
     let full : length (th .ids) ≡ 48 = search needs in
     let typed : length (th .types) ≡ 48 = search (needs, long) in
+    let marked : length (th .marks) ≡ 48 = search (needs, long) in
     let small : Fits w16 (th .highest) = search needs in
-    rw (c .before .ids-apart .ensures, c .seats-accepted .ensures, eq-eqb _ _ full, eq-eqb _ _ typed, le-leb (th .highest) 65535 (omega arith))
+    rw (c .before .ids-apart .ensures, c .seats-accepted .ensures, eq-eqb _ _ full, eq-eqb _ _ typed, eq-eqb _ _ marked, le-leb (th .highest) 65535 (omega arith))
 
 pub things-accepted-spec : {M : Type 1} → statement M
 things-accepted-spec = tie.close (tie.spec ids-apart-requires seats-accepted-requires returns)

@@ -5,7 +5,7 @@ use independent::generate::Case;
 use independent::matrix::write_matrix;
 use independent::scheme::write_scheme;
 
-use super::{written, Content, Refused, LARGE, SCHEME};
+use super::{lengths, written, Content, Refused, SCHEME};
 use crate::told::{Call, Told};
 
 pub fn expect(case: &Case, edges: bool, content: &Content, told: &mut Vec<Told>) {
@@ -40,13 +40,5 @@ fn in_scheme(number: u8) -> Refused {
         number,
         place: SCHEME,
         at: 0,
-    }
-}
-
-/// At the edges also just enough, and one byte less.
-fn lengths(room: usize, edges: bool, bytes: &Result<Vec<u8>, Refused>) -> Vec<usize> {
-    match bytes {
-        Ok(bytes) if edges => vec![room, LARGE, bytes.len(), bytes.len() - 1],
-        _ => vec![room, LARGE],
     }
 }

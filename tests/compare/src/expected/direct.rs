@@ -8,7 +8,6 @@ use independent::scheme::Scheme;
 use super::running::ran;
 use super::{written, Refused, LARGE, REQUESTS};
 use crate::counts::Counts;
-use crate::list::counted;
 use crate::told::{Call, Told};
 
 pub fn expect(
@@ -35,7 +34,7 @@ pub fn expect(
         }
         behind += length;
         if let Some((scheme, matrix)) = &mut matrix {
-            let answer = counted(scheme, matrix, *command, ids, &mut counts.highest);
+            let answer = counts.ways.request(scheme, matrix, *command, ids);
             counts.answer(answer);
             let bytes = write_matrix(matrix, scheme);
             told.push(ran(Call::RunDirect { request }, &[answer], &bytes, None));

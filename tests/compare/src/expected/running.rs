@@ -23,7 +23,7 @@ pub fn expect<'a>(
     let mut lengths = vec![(LARGE, LARGE), (LARGE, case.room), (case.room, LARGE)];
     match (&content.scheme, &content.matrix) {
         (Ok(scheme), Ok(matrix)) => {
-            let carried = carry(scheme, matrix, &case.requests, &mut counts.highest);
+            let carried = carry(scheme, matrix, &case.requests, &mut counts.ways);
             counts.list(&carried);
             if edges {
                 lengths.extend(edge_lengths(carried.answers.len(), carried.bytes.len()));

@@ -1,4 +1,5 @@
-//! What the functions say that store nothing: checks and totals, what is looked up in a command and among the things, sets and numbers.
+//! What the functions say that store nothing: checks and totals, what is looked up in a command and among the things, a mark that is set in a copy of
+//! them, sets and numbers.
 
 use super::at_position;
 use super::said::Said;
@@ -7,6 +8,7 @@ use super::tasks::Task;
 use super::values::{names, CommandValue, SchemeValue};
 use crate::matrix::all_rights;
 use crate::scheme::{group, is_subject_type};
+use crate::tools::id_in;
 
 pub fn say(task: &Task, scheme: &SchemeValue, seats: &Seats, lent: usize) -> Said {
     match task {
@@ -35,6 +37,7 @@ pub fn say(task: &Task, scheme: &SchemeValue, seats: &Seats, lent: usize) -> Sai
         Task::Seats { first, id } => Said::default()
             .value("things::seat_in", seats.seat_in(*first, *id))
             .value("things::seat_of", seats.seat_in(u64::MAX, *id)),
+        Task::MarkThing { id, held } => mark_thing(seats, *id, *held, lent),
         Task::At(at) => {
             let head = Some(scheme.head()).filter(|_| scheme.head_fault() == 0);
             at_position::say(at, head.as_ref(), seats)
@@ -43,7 +46,7 @@ pub fn say(task: &Task, scheme: &SchemeValue, seats: &Seats, lent: usize) -> Sai
     }
 }
 
-/// Sets, and single numbers.
+/// Sets, single numbers, and ids in words.
 fn say_of_numbers(task: &Task) -> Said {
     match task {
         Task::Rights { set, right, n } => rights(*set, *right, *n),
@@ -57,6 +60,7 @@ fn say_of_numbers(task: &Task) -> Said {
             Said::default().flag("records::Kinds::has", at_position::has_kind(*set, *kind))
         }
         Task::Numbers(one, other) => numbers(*one, *other),
+        Task::IdIn(word) => say_id(id_in(word)),
         _ => unreachable!("it stores something"),
     }
 }
@@ -88,6 +92,22 @@ fn totals(scheme: &SchemeValue, seats: &Seats, lent: usize) -> Said {
         }
         _ => said.gave("totals::totals", 27),
     }
+}
+
+/// The number, then the sum of the matrix with the things that are given back: those before where it is refused.
+fn mark_thing(seats: &Seats, id: u16, held: bool, lent: usize) -> Said {
+    let marked = seats.with_mark(id, held);
+    let number = if marked.is_some() { 0 } else { 12 };
+    let given = marked.as_ref().unwrap_or(seats);
+    Said::default()
+        .gave("hold::mark_thing", number)
+        .word(given.sum_of_lent(lent))
+}
+
+/// Whether the word was an id's, and which.
+fn say_id(id: Option<u16>) -> Said {
+    let said = Said::default().flag("lines::id_in", id.is_some());
+    id.into_iter().fold(said, Said::word)
 }
 
 fn form(command: &CommandValue, operations: u64, parameter: u8, code: u8) -> Said {

@@ -203,7 +203,7 @@ fn cell(bytes: &[u8], at: usize, context: &Context, head: Option<&Scheme>, seats
     ];
     let Context { last, things, .. } = *context;
     let found = told(bytes, at, context, head, |record, scheme| {
-        let type_of = |id| seats.type_of(things, id);
+        let type_of = |id| seats.thing(things, id).map(|thing| thing.kind);
         let (row, column, rights) = read_cell(record, scheme, type_of, last)?;
         let place = seats.seat_in(things, row) * SEATS + seats.seat_in(things, column);
         Ok(vec![row.into(), column.into(), place as u64, rights])

@@ -202,10 +202,17 @@ pub fn things_with(count: u16, highest: u16) -> Vec<u8> {
     let scheme = makers();
     let mut matrix = Matrix::new();
     for id in 1..=count {
-        matrix.create(&scheme, id, u8::from(id % 3 != 0));
+        matrix.create(&scheme, id, type_of(id));
     }
     matrix.raise_highest(highest);
     write_matrix(&matrix, &scheme)
+}
+
+pub fn type_of(id: u16) -> u8 {
+    match id % 3 {
+        0 => 0,
+        _ => 1,
+    }
 }
 
 /// With 48 things an id above the highest is 16, any other 15; with 47 the second of two that rise is 16.

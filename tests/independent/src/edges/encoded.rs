@@ -1,5 +1,6 @@
 //! How a task stands in the program's input: its number, the room, the position, and its bytes.
 
+use super::seats::Seat;
 use super::tasks::{Ask, At, Context, Read, SetCommand, Store, Stored, Task};
 
 /// The task's number, the room, the position, and its bytes.
@@ -50,8 +51,10 @@ impl Task {
             Task::ConvertedCells => (13, vec![]),
             Task::NoThings => (14, vec![]),
             Task::Plan { ask, spots, .. } => (15, behind(spots, &ask.bytes())),
-            Task::PutThing { id, kind, .. } => (16, behind(&id.to_le_bytes(), &[*kind])),
+            Task::PutThing { thing, .. } => (16, thing.bytes()),
             Task::SetHighest(_) => (17, vec![]),
+            Task::Hold(id) => (18, id.to_le_bytes().to_vec()),
+            Task::Release(id) => (19, id.to_le_bytes().to_vec()),
             _ => self.asking(),
         }
     }
@@ -69,7 +72,9 @@ impl Task {
                 ..
             } => (63, vec![*command, *parameter, *code]),
             Task::Seats { id, .. } => (64, id.to_le_bytes().to_vec()),
+            Task::MarkThing { id, held } => (65, behind(&id.to_le_bytes(), &[(*held).into()])),
             Task::CountRequests(list) => (72, list.clone()),
+            Task::IdIn(word) => (76, word.clone()),
             Task::Rights { set, right, n } => (80, behind(&set.to_le_bytes(), &[*right, *n])),
             Task::Types { set, kind } => (81, behind(&set.to_le_bytes(), &[*kind])),
             Task::Kinds { set, kind } => (82, behind(&set.to_le_bytes(), &kind.to_le_bytes())),
@@ -103,6 +108,12 @@ impl Task {
             Task::Seats { first, .. } => *first,
             _ => 0,
         }
+    }
+}
+
+impl Seat {
+    fn bytes(&self) -> Vec<u8> {
+        behind(&self.id.to_le_bytes(), &[self.kind, self.held.into()])
     }
 }
 

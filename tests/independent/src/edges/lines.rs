@@ -12,6 +12,7 @@ use super::Case;
 use crate::answer::{list_bytes, Answer};
 use crate::convert::{convert_matrix, convert_scheme};
 use crate::engine::carry_out;
+use crate::hold::mark;
 use crate::matrix::{read_matrix, write_matrix, Matrix};
 use crate::refusal::Refusal;
 use crate::request::{read_request, Next};
@@ -106,8 +107,8 @@ impl State {
                 self.seats.no_things();
                 said.through("things::no_things", 0)
             }
-            Task::PutThing { seat, id, kind } => {
-                self.seats.put_thing(*seat, *id, *kind);
+            Task::PutThing { seat, thing } => {
+                self.seats.put_thing(*seat, *thing);
                 said.through("things::put_thing", 0)
             }
             Task::SetHighest(highest) => {
@@ -123,10 +124,12 @@ impl State {
         }
     }
 
-    /// Requests, and lists of them.
+    /// Requests, lists of them, and marks.
     fn say_of_requests(&mut self, task: &Task, lent: usize) -> Said {
         let said = Said::default();
         match task {
+            Task::Hold(id) => said.gave("hold::hold", self.mark(*id, true, lent)),
+            Task::Release(id) => said.gave("hold::release", self.mark(*id, false, lent)),
             Task::Request(ask) => {
                 let answer = self.request(ask, lent);
                 let answer = answer.unwrap_or_else(Answer::before_tests);
@@ -272,6 +275,22 @@ impl State {
         });
         let said = self::spots(Said::default(), "plan::locate", found, parameter);
         self::spots(said, "plan::plan_all", planned, parameter)
+    }
+
+    /// 27 or 12, and then no mark changes; or 0.
+    fn mark(&mut self, id: u16, held: bool, lent: usize) -> u8 {
+        let matrix = self.matrix(self.scheme(), lent);
+        let marked = matrix.and_then(|matrix| {
+            let marked = mark(&matrix, id, held);
+            marked.map_err(|refusal| refusal.number)
+        });
+        match marked {
+            Ok(marked) => {
+                self.seats.mark(&marked);
+                0
+            }
+            Err(number) => number,
+        }
     }
 
     /// The answer, or 27.

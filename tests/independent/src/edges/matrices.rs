@@ -3,7 +3,7 @@
 use super::examples::{
     changed, changed_rows, key_matrix, key_scheme, set_cell, Row, KEY_MATRIX, KEY_SCHEME,
 };
-use super::seats::MOST_CELLS;
+use super::seats::{Seat, MOST_CELLS};
 use super::{case, Case, Task};
 use crate::matrix::read_matrix;
 use crate::scheme::read_scheme;
@@ -174,10 +174,12 @@ fn readings(label: &str, bytes: Vec<u8>) -> [Case; 2] {
     ]
 }
 
-/// A table that no reading gives, with ids above the highest: a reading that is refused must leave it so, and one that isn't must leave nothing of it.
+/// A table that no reading gives, with things on hold whose ids are above the highest: a reading that is refused must leave it so, and one that isn't
+/// must leave nothing of it.
 fn spoiled(label: &str) -> Vec<Case> {
     let thing = |seat, id, kind| {
-        let task = Task::PutThing { seat, id, kind };
+        let thing = Seat::of(id, kind).on_hold();
+        let task = Task::PutThing { seat, thing };
         case(format!("{label}-seat-{seat}"), task)
     };
     let cell = |place, rights| Case {

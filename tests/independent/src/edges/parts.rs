@@ -3,6 +3,7 @@
 
 use super::examples::{changed, key_matrix, key_scheme, Asked, KEY_MATRIX};
 use super::matrices::of_key;
+use super::seats::Seat;
 use super::tasks::{At, Context, Read};
 use super::{case, Case, Task};
 use crate::bytes::{CELL, MATRIX_HEAD, THING};
@@ -27,8 +28,11 @@ struct Part {
     bytes: Vec<u8>,
     at: usize,
     context: Context,
-    read: fn(Context) -> Read,
+    read: Reader,
 }
+
+/// How what is read at a place is asked for.
+type Reader = fn(Context) -> Read;
 
 impl Part {
     fn case(&self, label: &str) -> Case {
@@ -63,7 +67,7 @@ impl Part {
     }
 
     /// The same record at the start of the bytes.
-    fn from_start(self) -> Part {
+    fn at_start(self) -> Part {
         let bytes = self.bytes.get(self.at..).unwrap_or(&[]).to_vec();
         Part {
             bytes,
@@ -75,7 +79,7 @@ impl Part {
 
 /// The key example's head at 0, things at 8, 15 and 22, cells at 29 and 45, in the context that those before leave.
 fn part(at: usize) -> Part {
-    let (read, kind, last): (fn(Context) -> Read, u16, (u16, u16)) = match at {
+    let (read, kind, last): (Reader, u16, (u16, u16)) = match at {
         0 => (Read::MatrixHead, MATRIX_HEAD, (0, 0)),
         8 => (Read::Thing, THING, (0, 0)),
         15 => (Read::Thing, THING, (5, 0)),
@@ -123,7 +127,7 @@ fn records() -> Vec<Case> {
                 };
                 cases.push(behind.case(&format!("{label}-at-5")));
             } else {
-                let start = here(&bytes, at).from_start();
+                let start = here(&bytes, at).at_start();
                 cases.push(start.case(&format!("{label}-from-{at}")));
             }
         }
@@ -283,7 +287,8 @@ fn behind_cells() -> Vec<Case> {
 }
 
 fn put(seat: u64, id: u16, kind: u8) -> Case {
-    let task = Task::PutThing { seat, id, kind };
+    let thing = Seat::of(id, kind);
+    let task = Task::PutThing { seat, thing };
     case(format!("part-seat-{seat}-{id}-{kind}"), task)
 }
 

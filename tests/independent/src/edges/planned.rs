@@ -1,6 +1,6 @@
-//! Where a request's things sit, and what its creates and destroys make of them: the checks 12, 13 and 15 to 17 on the seats alone.
+//! Where a request's things sit, and what its creates and destroys make of them: the checks 12, 13, 18 and 15 to 17 on the seats alone.
 
-use super::seats::{Seats, SEATS};
+use super::seats::{Seat, Seats, SEATS};
 use super::values::CommandValue;
 
 /// The seat of each parameter's thing.
@@ -14,9 +14,10 @@ pub fn located(seats: &Seats, command: &CommandValue, ids: &[u16]) -> Result<Spo
             return Err(12);
         }
         if !command.is_new(place as u8) {
-            match seats.type_of(u64::MAX, id) {
+            match seats.thing(u64::MAX, id) {
                 None => return Err(12),
-                Some(found) if found != kind => return Err(13),
+                Some(thing) if thing.kind != kind => return Err(13),
+                Some(thing) if thing.held => return Err(18),
                 Some(_) => spots[place] = seats.seat_in(u64::MAX, id) as u8,
             }
         }
@@ -46,7 +47,7 @@ pub fn planned(
                 if free == SEATS {
                     return Err(fault(16));
                 }
-                after.put_thing(free as u64, id, command.type_of(row));
+                after.put_thing(free as u64, Seat::of(id, command.type_of(row)));
                 let spot = spots.get_mut(usize::from(row));
                 spot.into_iter().for_each(|spot| *spot = free as u8);
             }
@@ -56,7 +57,7 @@ pub fn planned(
                 if after.id_at(spot) != id {
                     return Err(fault(17));
                 }
-                after.put_thing(spot.into(), 0, 0);
+                after.put_thing(spot.into(), Seat::default());
             }
             _ => {}
         }

@@ -2,22 +2,23 @@
 //! last, with highest ids below, at and above those asked, and with ids and spots that are too few, too many or of somebody else.
 
 use super::carrying_out::{makers, things};
+use super::seats::Seat;
 use super::tasks::{Ask, SetCommand};
 use super::{case, Case, Task};
 use crate::scheme::write_scheme;
 
 /// The commands of the makers: they create a thing, create two, destroy two, create one, enter twice and destroy another, create one and destroy two
 /// others, destroy what they create, and create two, the second parameter first.
-const CREATE: u8 = 0;
-const CREATE_TWO: u8 = 1;
-const DESTROY_TWO: u8 = 2;
-const REPLACE: u8 = 3;
+pub const CREATE: u8 = 0;
+pub const CREATE_TWO: u8 = 1;
+pub const DESTROY_TWO: u8 = 2;
+pub const REPLACE: u8 = 3;
 const REPLACE_TWO: u8 = 4;
 const TURN: u8 = 5;
 const CREATE_TURNED: u8 = 6;
 
 /// Spots where nobody sits.
-const PAST: [u8; 2] = [48, 255];
+pub const PAST: [u8; 2] = [48, 255];
 
 pub fn cases() -> Vec<Case> {
     let makers = case("makers-to-plan", Task::ReadScheme(write_scheme(&makers())));
@@ -44,7 +45,7 @@ fn plan(&(label, count, command, ids, spots, parameter): &Row) -> [Case; 3] {
     ]
 }
 
-fn ask(label: &str, command: u8, ids: &[u16], spots: [u8; 2], parameter: u8) -> Case {
+pub fn ask(label: &str, command: u8, ids: &[u16], spots: [u8; 2], parameter: u8) -> Case {
     let ids = ids.to_vec();
     let task = Task::Plan {
         ask: Ask { command, ids },
@@ -216,11 +217,8 @@ fn plan_with(&(label, count, highest, command, ids): &Of) -> [Case; 5] {
 
 /// At the last seat; the spot of each parameter, and of those that no command has.
 fn spots() -> Vec<Case> {
-    let put = Task::PutThing {
-        seat: 47,
-        id: 60_000,
-        kind: 1,
-    };
+    let thing = Seat::of(60_000, 1);
+    let put = Task::PutThing { seat: 47, thing };
     let mut cases = vec![
         case("plan-things-9", Task::ReadMatrix(things(9))),
         case("plan-at-47", put),

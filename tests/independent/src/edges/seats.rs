@@ -1,5 +1,6 @@
-//! A matrix as the functions are handed it: 48 seats, the highest id, and the cells of each two seats. What a reading gives has zeros at free seats and
-//! where no cell exists, and no id above the highest (docs/DECISIONS.md, "Values handed in"); any other value is a stranger, which is 27 everywhere.
+//! A matrix as the functions are handed it: 48 seats, the highest id, and the cells of each two seats. What a reading gives has zeros and no mark at free
+//! seats, zeros where no cell exists, and no id above the highest (docs/DECISIONS.md, "Values handed in"); any other value is a stranger, which is 27
+//! everywhere.
 
 use std::collections::BTreeSet;
 
@@ -13,10 +14,30 @@ pub const CELLS: usize = SEATS * SEATS;
 /// How many cells the program has, so that more can be lent than a matrix has.
 pub const MOST_CELLS: usize = 2_400;
 
+/// A thing where it sits; a free seat has id 0.
+#[derive(Clone, Copy, Debug, Default, PartialEq, Eq)]
+pub struct Seat {
+    pub id: u16,
+    pub kind: u8,
+    pub held: bool,
+}
+
+impl Seat {
+    /// A thing that isn't on hold.
+    pub fn of(id: u16, kind: u8) -> Seat {
+        let held = false;
+        Seat { id, kind, held }
+    }
+
+    pub fn on_hold(self) -> Seat {
+        let held = true;
+        Seat { held, ..self }
+    }
+}
+
 #[derive(Clone, Debug, PartialEq, Eq)]
 pub struct Seats {
-    ids: [u16; SEATS],
-    types: [u8; SEATS],
+    seats: [Seat; SEATS],
     highest: u16,
     cells: Vec<u64>,
 }
@@ -24,15 +45,19 @@ pub struct Seats {
 impl Seats {
     pub fn none() -> Seats {
         Seats {
-            ids: [0; SEATS],
-            types: [0; SEATS],
+            seats: [Seat::default(); SEATS],
             highest: 0,
             cells: vec![0; MOST_CELLS],
         }
     }
 
     pub fn sum(&self) -> u64 {
-        sums::matrix(&self.ids, &self.types, self.highest, &self.cells)
+        self.sum_of_lent(MOST_CELLS)
+    }
+
+    /// Of the cells only those that are lent.
+    pub fn sum_of_lent(&self, lent: usize) -> u64 {
+        sums::matrix(&self.seats, self.highest, &self.cells[..lent])
     }
 
     pub fn highest(&self) -> u16 {
@@ -45,38 +70,35 @@ impl Seats {
     }
 
     /// An id above the highest becomes the highest. Past the last seat nothing else changes.
-    pub fn put_thing(&mut self, seat: u64, id: u16, kind: u8) {
-        self.highest = self.highest.max(id);
+    pub fn put_thing(&mut self, seat: u64, thing: Seat) {
+        self.highest = self.highest.max(thing.id);
         let seat = usize::try_from(seat).unwrap_or(SEATS);
-        if seat < SEATS {
-            self.ids[seat] = id;
-            self.types[seat] = kind;
+        if let Some(place) = self.seats.get_mut(seat) {
+            *place = thing;
         }
     }
 
     /// Nobody sits past the last seat.
     pub fn id_at(&self, seat: u8) -> u16 {
-        self.ids.get(usize::from(seat)).copied().unwrap_or(0)
+        self.seats.get(usize::from(seat)).map_or(0, |seat| seat.id)
     }
 
     /// The first of the first seats with this id, or how many those are.
     pub fn seat_in(&self, first: u64, id: u16) -> usize {
         let first = usize::try_from(first).map_or(SEATS, |first| first.min(SEATS));
-        let found = self.ids[..first].iter().position(|&other| other == id);
+        let found = self.seats[..first].iter().position(|seat| seat.id == id);
         found.unwrap_or(first)
     }
 
-    /// The type of the thing with this id, among those at the first seats. No thing has id 0.
-    pub fn type_of(&self, first: u64, id: u16) -> Option<u8> {
-        let ids = self.ids.iter().zip(0..first);
-        let mut things = ids.zip(&self.types).filter(|_| id != 0);
-        let found = things.find(|((&other, _), _)| other == id);
-        found.map(|(_, &kind)| kind)
+    /// The thing with this id, among those at the first seats. No thing has id 0.
+    pub fn thing(&self, first: u64, id: u16) -> Option<Seat> {
+        let mut seats = self.seats.iter().zip(0..first).filter(|_| id != 0);
+        let found = seats.find(|(seat, _)| seat.id == id);
+        found.map(|(&seat, _)| seat)
     }
 
     pub fn no_things(&mut self) {
-        self.ids = [0; SEATS];
-        self.types = [0; SEATS];
+        self.seats = [Seat::default(); SEATS];
         self.highest = 0;
     }
 
@@ -92,10 +114,26 @@ impl Seats {
     pub fn read(&mut self, matrix: &Matrix) {
         self.no_things();
         for (seat, (&id, &kind)) in matrix.things().iter().enumerate() {
-            self.put_thing(seat as u64, id, kind);
+            let held = matrix.is_held(id);
+            self.put_thing(seat as u64, Seat { id, kind, held });
         }
         self.highest = matrix.highest();
         self.fill(matrix);
+    }
+
+    /// As a hold or a release leaves it: the marks alone are others.
+    pub fn mark(&mut self, marked: &Matrix) {
+        for seat in &mut self.seats {
+            seat.held = marked.is_held(seat.id);
+        }
+    }
+
+    /// With this mark at the first seat with this id, whatever else stands there; nothing where no thing has it.
+    pub fn with_mark(&self, id: u16, held: bool) -> Option<Seats> {
+        let mut marked = self.clone();
+        let mut seats = marked.seats.iter_mut().filter(|seat| seat.id != 0);
+        seats.find(|seat| seat.id == id)?.held = held;
+        Some(marked)
     }
 
     /// As a request leaves it: a created thing takes the first free seat, a destroyed one's seat is free again.
@@ -104,18 +142,19 @@ impl Seats {
             match *operation {
                 Operation::Create { parameter } => {
                     let seat = self.seat_of(0);
-                    self.ids[seat] = ids[parameter as usize];
+                    self.seats[seat].id = ids[parameter as usize];
                 }
                 Operation::Destroy { parameter } => {
                     let seat = self.seat_of(ids[parameter as usize]);
-                    self.ids[seat] = 0;
+                    self.seats[seat].id = 0;
                 }
                 Operation::Enter { .. } | Operation::Delete { .. } => {}
             }
         }
-        for seat in 0..SEATS {
-            self.types[seat] = after.type_of(self.ids[seat]).unwrap_or(0);
+        for seat in &mut self.seats {
+            seat.kind = after.type_of(seat.id).unwrap_or(0);
         }
+        self.mark(after);
         self.highest = after.highest();
         self.fill(after);
     }
@@ -130,27 +169,28 @@ impl Seats {
     }
 
     fn seat_of(&self, id: u16) -> usize {
-        let seat = self.ids.iter().position(|&found| found == id);
+        let seat = self.seats.iter().position(|seat| seat.id == id);
         seat.expect("there is such a seat")
     }
 
-    /// Ids that differ and aren't above the highest, types below m, and type 0 at each free seat.
+    /// Ids that differ and aren't above the highest, types below m; type 0 and no mark at each free seat.
     pub fn things_accepted(&self, head: &Scheme) -> bool {
-        let taken: Vec<u16> = self.ids.iter().copied().filter(|&id| id != 0).collect();
+        let ids = self.seats.iter().map(|seat| seat.id);
+        let taken: Vec<u16> = ids.filter(|&id| id != 0).collect();
         let apart: BTreeSet<u16> = taken.iter().copied().collect();
-        let fits = |(&id, &kind): (&u16, &u8)| match id {
-            0 => kind == 0,
-            _ => kind < head.types && id <= self.highest,
+        let fits = |seat: &Seat| match seat.id {
+            0 => seat.kind == 0 && !seat.held,
+            id => seat.kind < head.types && id <= self.highest,
         };
-        apart.len() == taken.len() && self.ids.iter().zip(&self.types).all(fits)
+        apart.len() == taken.len() && self.seats.iter().all(fits)
     }
 
     /// Of the cells so many are lent. Those that don't exist are empty, and no right is n or above.
     pub fn accepted(&self, head: &Scheme, lent: usize) -> bool {
         let fits = |(place, &rights): (usize, &u64)| {
-            let (row, column) = (place / SEATS, place % SEATS);
-            let subject = head.is_subject_type(self.types[row]);
-            let exists = self.ids[row] != 0 && self.ids[column] != 0 && subject;
+            let (row, column) = (self.seats[place / SEATS], self.seats[place % SEATS]);
+            let subject = head.is_subject_type(row.kind);
+            let exists = row.id != 0 && column.id != 0 && subject;
             rights == 0 || exists && rights & !all_rights(head.rights) == 0
         };
         let mut cells = self.cells[..CELLS].iter().enumerate();
@@ -160,16 +200,15 @@ impl Seats {
     /// The content, of a matrix that is accepted.
     pub fn matrix(&self, head: &Scheme) -> Matrix {
         let mut matrix = Matrix::new();
-        for (&id, &kind) in self.ids.iter().zip(&self.types) {
-            if id != 0 {
-                matrix.create(head, id, kind);
-            }
+        for &Seat { id, kind, held } in self.seats.iter().filter(|seat| seat.id != 0) {
+            matrix.create(head, id, kind);
+            matrix.set_held(id, held);
         }
         matrix.raise_highest(self.highest);
         for (place, &rights) in self.cells[..CELLS].iter().enumerate() {
             if rights != 0 {
-                let (row, column) = (self.ids[place / SEATS], self.ids[place % SEATS]);
-                matrix.set_cell(row, column, rights);
+                let (row, column) = (self.seats[place / SEATS], self.seats[place % SEATS]);
+                matrix.set_cell(row.id, column.id, rights);
             }
         }
         matrix

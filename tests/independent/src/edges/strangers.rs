@@ -2,6 +2,7 @@
 //! point that takes it. What would be carried out is carried out on their neighbours, which a reading does give.
 
 use super::examples::{set_cell, KEY_SCHEME, LOAD, RETIRE};
+use super::seats::Seat;
 use super::tasks::{Ask, SetCommand};
 use super::{case, Case, Task};
 use crate::matrix::{write_matrix, Matrix};
@@ -349,7 +350,14 @@ fn asked_of_matrix(label: &str, cells: u16) -> Vec<Case> {
 
 /// Things 5, 9 and 12 sit at 0, 1 and 2. A cell's place is 48 times its row's seat, and its column's seat.
 fn matrices() -> Vec<Stranger> {
-    let thing = |seat, id, kind| Task::PutThing { seat, id, kind };
+    let thing = |seat, id, kind| Task::PutThing {
+        seat,
+        thing: Seat::of(id, kind),
+    };
+    let mark = |seat| Task::PutThing {
+        seat,
+        thing: Seat::of(0, 0).on_hold(),
+    };
     let cell = set_cell;
     let one = |label: &str, task: Task| stranger(label, vec![task]);
     vec![
@@ -361,6 +369,8 @@ fn matrices() -> Vec<Stranger> {
         ),
         one("type-at-free-3", thing(3, 0, 1)),
         one("type-at-free-47", thing(47, 0, 255)),
+        one("mark-at-free-3", mark(3)),
+        one("mark-at-free-47", mark(47)),
         one("id-5-twice", thing(3, 5, 0)),
         one("id-12-twice", thing(47, 12, 2)),
         one("type-3", thing(3, 20, 3)),
@@ -384,7 +394,8 @@ fn highests() -> Vec<Stranger> {
     let set = Task::SetHighest;
     let with = |label: &str, seat, id, highest| {
         let kind = if seat == 2 { 2 } else { 1 };
-        let thing = Task::PutThing { seat, id, kind };
+        let thing = Seat::of(id, kind);
+        let thing = Task::PutThing { seat, thing };
         stranger(label, vec![thing, set(highest)])
     };
     let key = |highest: u16| stranger(&format!("key-highest-{highest}"), vec![set(highest)]);

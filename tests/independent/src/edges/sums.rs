@@ -1,5 +1,7 @@
 //! The sums that stand for what was lent: each place counts by its value and its position.
 
+use super::seats::Seat;
+
 /// The largest prime below 2 to the 40.
 const PRIME: u64 = (1 << 40) - 87;
 
@@ -19,10 +21,12 @@ pub fn ids(ids: &[u16]) -> u64 {
     all(ids.iter().map(|&id| u64::from(id)))
 }
 
-/// Id and type of each seat, the highest id, then the two halves of each cell.
-pub fn matrix(ids: &[u16], types: &[u8], highest: u16, cells: &[u64]) -> u64 {
-    let things = ids.iter().zip(types);
-    let things = things.flat_map(|(&id, &kind)| [u64::from(id), u64::from(kind)]);
+/// Id, type and mark of each seat, the highest id, then the two halves of each cell.
+pub fn matrix(seats: &[Seat], highest: u16, cells: &[u64]) -> u64 {
+    let things = seats.iter().flat_map(|seat| {
+        let (id, kind, held) = (seat.id, seat.kind, seat.held);
+        [u64::from(id), u64::from(kind), u64::from(held)]
+    });
     let cells = cells.iter();
     let cells = cells.flat_map(|cell| [cell & 0xFFFF_FFFF, cell >> 32]);
     all(things.chain([u64::from(highest)]).chain(cells))

@@ -1,5 +1,7 @@
 //! What the program `edges` can be asked, by its public functions.
 
+use super::seats::Seat;
+
 /// A room is the length of the lent buffer, `at` a position. A task may change the scheme or the matrix that the cases behind it meet.
 #[derive(Clone, Debug, PartialEq, Eq)]
 pub enum Task {
@@ -28,11 +30,14 @@ pub enum Task {
         sets: Vec<u64>,
     },
     NoThings,
+    /// Also a free seat: its id is 0, and it may carry a mark, which no reading gives.
     PutThing {
         seat: u64,
-        id: u16,
-        kind: u8,
+        thing: Seat,
     },
+    /// The thing of this id is put on hold.
+    Hold(u16),
+    Release(u16),
     /// The highest id alone.
     SetHighest(u16),
     /// The things of a request are located. Then its creates and destroys are planned with the spots that are given, that of all parameters but the second,
@@ -71,9 +76,16 @@ pub enum Task {
         first: u64,
         id: u16,
     },
+    /// The mark of the thing with this id is set among the things as they are. What that gives is only told: the cases behind it meet the things as before.
+    MarkThing {
+        id: u16,
+        held: bool,
+    },
     At(At),
     /// How many requests a list has.
     CountRequests(Vec<u8>),
+    /// The id that a word stands for.
+    IdIn(Vec<u8>),
     /// All that is asked of a set of rights, a right and a number of rights.
     Rights {
         set: u64,

@@ -2,6 +2,7 @@
 //! lists of other lengths.
 
 use super::examples::{key_matrix, key_scheme};
+use super::seats::Seat;
 use super::{case, Case, Task};
 
 pub fn cases() -> Vec<Case> {
@@ -30,7 +31,8 @@ fn asked(label: &str) -> Vec<Case> {
 }
 
 fn put(label: &str, seat: u64, id: u16, kind: u8) -> Case {
-    let task = Task::PutThing { seat, id, kind };
+    let thing = Seat::of(id, kind);
+    let task = Task::PutThing { seat, thing };
     case(format!("put-{label}"), task)
 }
 

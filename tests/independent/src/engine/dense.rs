@@ -6,11 +6,13 @@ use crate::scheme::{Command, Operation, Scheme};
 
 const SEATS: usize = MOST_THINGS;
 
-/// Things sit on seats. A free seat has id 0, and every cell that doesn't exist is 0.
+/// Things sit on seats. A free seat has id 0, and every cell that doesn't exist is 0. No mark is left at a seat that becomes free: what is on hold isn't
+/// destroyed.
 #[derive(Clone)]
 pub struct Dense {
     ids: [u16; SEATS],
     types: [u8; SEATS],
+    held: [bool; SEATS],
     things: usize,
     highest: u16,
     cells: Box<[u64; SEATS * SEATS]>,
@@ -21,6 +23,7 @@ impl Dense {
         let mut dense = Dense {
             ids: [0; SEATS],
             types: [0; SEATS],
+            held: [false; SEATS],
             things: matrix.things().len(),
             highest: matrix.highest(),
             cells: Box::new([0; SEATS * SEATS]),
@@ -28,6 +31,7 @@ impl Dense {
         for (seat, (&id, &kind)) in matrix.things().iter().enumerate() {
             dense.ids[seat] = id;
             dense.types[seat] = kind;
+            dense.held[seat] = matrix.is_held(id);
         }
         for (&(row, column), &rights) in matrix.cells() {
             let place = place(dense.seat_of(row).unwrap(), dense.seat_of(column).unwrap());
@@ -42,6 +46,7 @@ impl Dense {
         let taken: Vec<usize> = (0..SEATS).filter(|&seat| self.ids[seat] != 0).collect();
         for &seat in &taken {
             matrix.create(scheme, self.ids[seat], self.types[seat]);
+            matrix.set_held(self.ids[seat], self.held[seat]);
         }
         for &row in &taken {
             for &column in &taken {
@@ -54,11 +59,16 @@ impl Dense {
         matrix
     }
 
-    /// 0 and the changed matrix, or 10 to 17 and no effect at all.
+    /// 0 and the changed matrix, or 10 to 18 and no effect at all.
     pub fn carry_out(&mut self, scheme: &Scheme, command: usize, ids: &[u16]) -> Answer {
-        let Some(command) = scheme.commands.get(command) else {
-            return Answer::before_tests(10);
-        };
+        match scheme.commands.get(command) {
+            Some(command) => self.obey(command, ids),
+            None => Answer::before_tests(10),
+        }
+    }
+
+    /// The same for a command that exists.
+    pub fn obey(&mut self, command: &Command, ids: &[u16]) -> Answer {
         let mut seats = [0; 8];
         let refused = self.locate(command, ids, &mut seats);
         if refused != 0 {
@@ -74,7 +84,7 @@ impl Dense {
         Answer::carried_out(command)
     }
 
-    /// 11 to 13; or 0 and the seats of the parameters that aren't new.
+    /// 11 to 13 or 18; or 0 and the seats of the parameters that aren't new.
     #[inline]
     fn locate(&self, command: &Command, ids: &[u16], seats: &mut [usize; 8]) -> u8 {
         if ids.len() != command.parameters.len() || ids.len() > 8 {
@@ -99,6 +109,9 @@ impl Dense {
                 };
                 if self.types[seat] != kind {
                     return 13;
+                }
+                if self.held[seat] {
+                    return 18;
                 }
                 seats[parameter] = seat;
             }

@@ -122,7 +122,7 @@ fn shorten_body(random: &mut Random, bytes: &mut Vec<u8>) {
     }
 }
 
-fn shorten(bytes: &mut Vec<u8>, record: Span, fewer: usize) {
+pub(super) fn shorten(bytes: &mut Vec<u8>, record: Span, fewer: usize) {
     let length = record.end - record.at - 4;
     let fewer = fewer.min(length);
     bytes.drain(record.end - fewer..record.end);
@@ -255,7 +255,7 @@ fn highest_field(bytes: &[u8]) -> Option<Field> {
     named(&fields(bytes), &["highest"]).first().copied()
 }
 
-fn named(fields: &[Field], names: &[&str]) -> Vec<Field> {
+pub(super) fn named(fields: &[Field], names: &[&str]) -> Vec<Field> {
     fields
         .iter()
         .copied()
@@ -317,11 +317,11 @@ fn set_field(random: &mut Random, bytes: &mut [u8], fields: &[Field], field: Fie
     put_value(bytes, field, new);
 }
 
-fn put_value(bytes: &mut [u8], field: Field, value: u64) {
+pub(super) fn put_value(bytes: &mut [u8], field: Field, value: u64) {
     bytes[field.at..field.at + field.width].copy_from_slice(&value.to_le_bytes()[..field.width]);
 }
 
-fn value(bytes: &[u8], field: Field) -> u64 {
+pub(super) fn value(bytes: &[u8], field: Field) -> u64 {
     let mut value = [0; 8];
     value[..field.width].copy_from_slice(&bytes[field.at..field.at + field.width]);
     u64::from_le_bytes(value)

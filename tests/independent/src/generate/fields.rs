@@ -43,7 +43,7 @@ pub fn fields(bytes: &[u8]) -> Vec<Field> {
         match walk.field("kind", 2) {
             1 => walk.all(&[("n", 1), ("m", 1), ("subjects", 2), ("commands", 1)]),
             2 => walk.command(),
-            4 => walk.all(&[("thing id", 2), ("thing type", 1)]),
+            4 | 8 => walk.all(&[("thing id", 2), ("thing type", 1)]),
             5 => walk.all(&[("cell row", 2), ("cell column", 2), ("cell rights", 8)]),
             6 => {
                 walk.field("command", 1);

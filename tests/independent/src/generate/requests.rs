@@ -1,6 +1,7 @@
 //! Random requests for a scheme and a matrix: many that succeed, and each way to be refused.
 
 use super::ids::{not_above, rising};
+use super::marks::things;
 use super::matrices::id;
 use super::random::Random;
 use crate::engine::carry_out;
@@ -89,9 +90,10 @@ fn request(random: &mut Random, scheme: &Scheme, matrix: &Matrix, gone: &[u16]) 
 fn ids(random: &mut Random, command: &Command, matrix: &Matrix, gone: &[u16]) -> Vec<u16> {
     let new = new_ids(random, command, matrix);
     let existing: Vec<u16> = matrix.things().keys().copied().collect();
+    let held = things(matrix, true);
     let mut ids: Vec<u16> = Vec::new();
     for (place, &kind) in command.parameters.iter().enumerate() {
-        let of_type = of_type(matrix, kind);
+        let (free, on_hold) = (of_type(matrix, kind, false), of_type(matrix, kind, true));
         let is_new = command.is_new(place as u8);
         let drawn = match random.below(40) {
             0 => 0,
@@ -100,8 +102,12 @@ fn ids(random: &mut Random, command: &Command, matrix: &Matrix, gone: &[u16]) ->
             3..=8 if !ids.is_empty() => *random.pick(&ids),
             9 if is_new => not_above(random, matrix),
             10 if is_new && !gone.is_empty() => *random.pick(gone),
+            11 if is_new && !held.is_empty() => *random.pick(&held),
             _ if is_new => new[place],
-            _ if !of_type.is_empty() => *random.pick(&of_type),
+            11 | 12 if !on_hold.is_empty() => *random.pick(&on_hold),
+            13 if !held.is_empty() => *random.pick(&held),
+            _ if !free.is_empty() => *random.pick(&free),
+            _ if !on_hold.is_empty() => *random.pick(&on_hold),
             _ => id(random),
         };
         ids.push(drawn);
@@ -120,8 +126,9 @@ fn new_ids(random: &mut Random, command: &Command, matrix: &Matrix) -> [u16; 8] 
     ids
 }
 
-pub fn of_type(matrix: &Matrix, kind: u8) -> Vec<u16> {
-    let things = matrix.things().iter();
-    let of_type = things.filter(|(_, &found)| found == kind);
-    of_type.map(|(&id, _)| id).collect()
+/// The things of a type that are on hold, or those that aren't.
+pub fn of_type(matrix: &Matrix, kind: u8, held: bool) -> Vec<u16> {
+    let mut of_type = things(matrix, held);
+    of_type.retain(|&id| matrix.type_of(id) == Some(kind));
+    of_type
 }

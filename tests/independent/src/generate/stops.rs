@@ -24,12 +24,12 @@ pub fn stops(random: &mut Random, scheme: &mut Scheme, matrix: &Matrix) -> Vec<D
     requests
 }
 
-/// Things of the types, and new ids that rise; none where a type has no thing.
+/// Things of the types that aren't on hold, and new ids that rise; none where a type has no such thing.
 pub fn ids(random: &mut Random, command: &Command, matrix: &Matrix) -> Option<Vec<u16>> {
     let new = rising(random, command, matrix.highest());
     let mut ids = Vec::new();
     for (place, &kind) in command.parameters.iter().enumerate() {
-        let of_type = of_type(matrix, kind);
+        let of_type = of_type(matrix, kind, false);
         ids.push(match command.is_new(place as u8) {
             true => new[place],
             false if of_type.is_empty() => return None,

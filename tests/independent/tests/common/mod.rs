@@ -58,6 +58,7 @@ pub fn carries_out(scheme: &Scheme, matrix: &mut Matrix, command: usize, ids: &[
     assert_eq!(*matrix, dense.to_matrix(scheme));
     assert!(answer.number == 0 || *matrix == before);
     assert!(matrix.highest() >= before.highest());
+    assert_eq!(matrix.on_hold(), before.on_hold());
     (answer.number, answer.test, answer.steps)
 }
 

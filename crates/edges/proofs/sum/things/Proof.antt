@@ -35,6 +35,15 @@ cast-add-2 c = search needs
 add-requires-2 : tie.Need-add-requires-2 Inv-loop μ-loop
 add-requires-2 c κs = search needs
 
+element-copy-out-add-2 : tie.Need-element-copy-out-add-2 Inv-loop μ-loop
+element-copy-out-add-2 c = search needs
+
+cast-add-3 : tie.Need-cast-add-3 Inv-loop μ-loop
+cast-add-3 c = search needs
+
+add-requires-3 : tie.Need-add-requires-3 Inv-loop μ-loop
+add-requires-3 c κs = search needs
+
 add-i : tie.Need-add-i Inv-loop μ-loop
 add-i c = search needs
 
@@ -61,6 +70,9 @@ things-spec =
     add-requires
     cast-add-2
     add-requires-2
+    element-copy-out-add-2
+    cast-add-3
+    add-requires-3
     add-i
     loop-less
     loop-again

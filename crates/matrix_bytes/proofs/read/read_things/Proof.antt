@@ -18,7 +18,7 @@ use Rattle.matrix_bytes.proofs.read.read_things.Tie as tie
 abbrev Inv-loop : tie.InvT-loop
 Inv-loop s at h highest count n th₀ last₀ p₀ j₀ th last p j =
     (j ≤ count) ×
-    (v : Looped (λ last. inRecord s 16 (λ kind. thing h highest last)) (λ last t. t .id) count 0 at j last p) ×
+    (v : Looped (λ last. inRecord s 272 (thing h highest last)) (λ last t. t .id) count 0 at j last p) ×
     (th ≡ thingsFrom highest (v .items))
 
 abbrev μ-loop : tie.MeasureT-loop
@@ -77,8 +77,8 @@ loop-again c =
     let f = c .before .before in
     let r = f .before .before in
     let (m, v, et) = r .before .before .loop .inv in
-    let e = thing-read _ _ _ (r .read-thing .ensures ∙ thing-opened _ _ _ _ (good (r .before .before)) _ _) _ _ _ _ (f .found .given .1) in
-    (omega arith, looped-on v (r .before .loop-test .taken) e, things-on _ (v .items) _ (v .count) _ et _ _ _ (c .put-thing .ensures))
+    let e = thing-read _ _ _ _ _ _ _ (r .read-thing .ensures ∙ thing-opened _ _ _ _ (good (r .before .before)) _ _) _ _ _ _ (f .found .given .1) in
+    (omega arith, looped-on v (r .before .loop-test .taken) e, things-on _ (v .items) _ (v .count) _ et _ _ _ _ (c .put-thing .ensures))
 
 returns-2 : tie.Need-returns-2 Inv-loop μ-loop
 returns-2 c = let (m, v, et) = c .before .loop .inv in rw (et, looped-all v (c .loop-test .left))

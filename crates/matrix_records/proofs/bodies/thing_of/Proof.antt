@@ -41,18 +41,18 @@ returns : tie.Need-returns
 returns c =
     let m = c .before .before in
     let b = m .before .before .before .args .b .now in
-    sym (ap (thingOf _) (thing-no-id b _ _ _ _ (told-fault2 (number 2 b) _ _ _ (m .before .field2-at .ensures) (c .before .enum-told .given .1) (c .number .ensures))))
+    sym (ap (thingOf _) (thing-no-id b _ _ _ _ _ (told-fault2 (number 2 b) _ _ _ (m .before .field2-at .ensures) (c .before .enum-told .given .1) (c .number .ensures))))
 
 returns-2 : tie.Need-returns-2
-returns-2 c = sym (ap (thingOf _) (thing-zero _ _ _ _ _ (id-read (c .before)) (c .if1 .taken)))
+returns-2 c = sym (ap (thingOf _) (thing-zero _ _ _ _ _ _ (id-read (c .before)) (c .if1 .taken)))
 
 returns-3 : tie.Need-returns-3
-returns-3 c = sym (ap (thingOf _) (thing-below _ _ _ _ _ (id-read (c .before .before)) (c .before .if1 .left) (c .if2 .taken)))
+returns-3 c = sym (ap (thingOf _) (thing-below _ _ _ _ _ _ (id-read (c .before .before)) (c .before .if1 .left) (c .if2 .taken)))
 
 returns-4 : tie.Need-returns-4
 returns-4 c =
     let i = c .before in
-    sym (ap (thingOf _) (thing-above _ _ _ _ _ (id-read (i .before .before)) (i .before .if1 .left) (i .if2 .left) (c .if3 .taken)))
+    sym (ap (thingOf _) (thing-above _ _ _ _ _ _ (id-read (i .before .before)) (i .before .if1 .left) (i .if2 .left) (c .if3 .taken)))
 
 field-at-requires : tie.Need-field-at-requires
 field-at-requires c κs = search needs
@@ -71,19 +71,19 @@ returns-5 c =
     let m = c .before .before in
     let i = m .before .before in
     let e = told-fault _ _ _ _ (m .before .field-at .ensures) (c .before .enum-told2 .given .1) (c .number2 .ensures) in
-    sym (ap (thingOf _) (thing-no-type _ _ _ _ _ (id-read (i .before .before .before)) (i .before .before .if1 .left) (i .before .if2 .left) (i .if3 .left) _ e))
+    sym (ap (thingOf _) (thing-no-type _ _ _ _ _ _ (id-read (i .before .before .before)) (i .before .before .if1 .left) (i .before .if2 .left) (i .if3 .left) _ e))
 
 returns-6 : tie.Need-returns-6
 returns-6 c =
     let d = c .before in
     let i = below d in
-    sym (ap (thingOf _) (thing-more _ _ _ _ _ (id-read (i .before .before .before)) (i .before .before .if1 .left) (i .before .if2 .left) (i .if3 .left) _ (type-read d) (c .if4 .taken)))
+    sym (ap (thingOf _) (thing-more _ _ _ _ _ _ (id-read (i .before .before .before)) (i .before .before .if1 .left) (i .before .if2 .left) (i .if3 .left) _ (type-read d) (c .if4 .taken)))
 
 returns-7 : tie.Need-returns-7
 returns-7 c =
     let d = c .before in
     let i = below d in
-    sym (ap (thingOf _) (thing-whole _ _ _ _ _ (id-read (i .before .before .before)) (i .before .before .if1 .left) (i .before .if2 .left) (i .if3 .left) _ (type-read d) (c .if4 .left)))
+    sym (ap (thingOf _) (thing-whole _ _ _ _ _ _ (id-read (i .before .before .before)) (i .before .before .if1 .left) (i .before .if2 .left) (i .if3 .left) _ (type-read d) (c .if4 .left)))
 
 pub thing-of-spec : {M : Type 1} → statement M
 thing-of-spec =

@@ -1,7 +1,6 @@
 -- Each way out is one case of `spotOf`.
 use mathlib.Core.Path.{_∙_}
-use borrow.Author.Tests.{not-true, not-false}
-use Rattle.plan.proofs.PlaceLaws.{spot-0, spot-new, spot-unknown, spot-wrong, spot-here}
+use Rattle.plan.proofs.PlaceLaws.{spot-0, spot-new, spot-unknown, spot-there}
 use borrow.Author.Needs.{needs}
 use Rattle.plan.proofs.places.spot_of.Statement.{statement}
 use Rattle.plan.proofs.places.spot_of.Tie as tie
@@ -32,40 +31,26 @@ returns-3 c =
     c .no-spot2 .ensures
     ∙ spot-unknown (a .args .t1) _ _ _ (f .before .if1 .left) (a .fits .x) (f .if2 .left) (search needs) _ (s .seat-of .ensures) (c .before .if3 .taken)
 
-element-copy-out-of : tie.Need-element-copy-out-of
-element-copy-out-of c = search needs
+cast-spot-at : tie.Need-cast-spot-at
+cast-spot-at c = search needs
 
-is-requires : tie.Need-is-requires
-is-requires c κs = search needs
+element-copy-out-spot-at : tie.Need-element-copy-out-spot-at
+element-copy-out-spot-at c = search needs
 
-no-spot-requires-3 : tie.Need-no-spot-requires-3
-no-spot-requires-3 c κs = search needs
+element-copy-out-spot-at-2 : tie.Need-element-copy-out-spot-at-2
+element-copy-out-spot-at-2 c = search needs
+
+spot-at-requires : tie.Need-spot-at-requires
+spot-at-requires c κs = search needs
 
 returns-4 : tie.Need-returns-4
 returns-4 c =
-    let h = c .before .before .before .before in
+    let h = c .before .before .before in
     let s = h .before in
     let f = s .before .before in
     let a = f .before .before in
-    c .no-spot3 .ensures
-    ∙ spot-wrong (a .args .t1) _ _ _ (f .before .if1 .left) (a .fits .x) (f .if2 .left) (search needs) _ (s .seat-of .ensures)
-    (h .if3 .left) _ (c .before .before .is .ensures) (not-true _ (c .before .if4 .taken))
-
-cast-sits : tie.Need-cast-sits
-cast-sits c = search needs
-
-sits-requires-2 : tie.Need-sits-requires-2
-sits-requires-2 c κs = search needs
-
-returns-5 : tie.Need-returns-5
-returns-5 c =
-    let h = c .before .before .before .before in
-    let s = h .before in
-    let f = s .before .before in
-    let a = f .before .before in
-    c .sits2 .ensures
-    ∙ spot-here (a .args .t1) _ _ _ (f .before .if1 .left) (a .fits .x) (f .if2 .left) (search needs) _ (s .seat-of .ensures)
-    (h .if3 .left) _ (c .before .before .is .ensures) (not-false _ (c .before .if4 .left))
+    c .spot-at .ensures
+    ∙ spot-there (a .args .t1) _ _ _ (f .before .if1 .left) (a .fits .x) (f .if2 .left) (search needs) _ (s .seat-of .ensures) (h .if3 .left)
 
 pub spot-of-spec : {M : Type 1} → statement M
 spot-of-spec =
@@ -78,10 +63,8 @@ spot-of-spec =
     seat-of-requires
     no-spot-requires-2
     returns-3
-    element-copy-out-of
-    is-requires
-    no-spot-requires-3
-    returns-4
-    cast-sits
-    sits-requires-2
-    returns-5)
+    cast-spot-at
+    element-copy-out-spot-at
+    element-copy-out-spot-at-2
+    spot-at-requires
+    returns-4)

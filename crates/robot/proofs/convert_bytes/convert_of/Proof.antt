@@ -1,8 +1,8 @@
 -- A matrix is read against a scheme, then its converted bytes are written.
 -- Assumes nothing.
 use mathlib.Core.Path.{refl}
-use Rattle.robot.specs.Library.{givesWrote, notConverted, wrote, convertAgainst}
-use Rattle.robot.proofs.CallLaws.{matrix-read, matrix-refused, not-converted, told-wrote}
+use Rattle.robot.specs.Library.{givesWrote, notWritten, wrote, convertAgainst}
+use Rattle.robot.proofs.CallLaws.{matrix-read, matrix-refused, not-written, told-wrote}
 use Rattle.convert.specs.Convert.{convertMatrixInto}
 use borrow.Author.Needs.{needs}
 use Rattle.robot.proofs.convert_bytes.convert_of.Statement.{statement}
@@ -42,9 +42,9 @@ returns c =
     let n = t .before .before in
     let e = n .before .before in
     let r = e .before .before .before in
-    matrix-refused (givesWrote _) (notConverted _) (λ m k. wrote 1 (convertMatrixInto _ _ m)) _ _ (r .before .before .before .before .before .before .before .pre) _ refl _
+    matrix-refused (givesWrote _) (notWritten _) (λ m k. wrote 1 (convertMatrixInto _ _ m)) _ _ (r .before .before .before .before .before .before .before .pre) _ refl _
     (r .before .before .no-things .ensures) _ _ (r .read-matrix-by-head .ensures) _ _ (e .enum-told2 .given .1)
-    _ _ (n .number .ensures) (t .before .at .ensures) (not-converted _ _ _ _ _ _ _ (t .tell .ensures))
+    _ _ (n .number .ensures) (t .before .at .ensures) (not-written _ _ _ _ _ _ _ (t .tell .ensures))
 
 slice-aggregate-convert-matrix : tie.Need-slice-aggregate-convert-matrix
 slice-aggregate-convert-matrix c = search needs
@@ -68,7 +68,7 @@ returns-2 c =
     let w = t .before .before .before .before in
     let e = w .before .before .before .before in
     let r = e .before .before .before in
-    matrix-read (givesWrote _) (notConverted _) (λ m k. wrote 1 (convertMatrixInto _ _ m)) _ _ (r .before .before .before .before .before .before .before .pre) _ refl _
+    matrix-read (givesWrote _) (notWritten _) (λ m k. wrote 1 (convertMatrixInto _ _ m)) _ _ (r .before .before .before .before .before .before .before .pre) _ refl _
     (r .before .before .no-things .ensures) _ _ (r .read-matrix-by-head .ensures) _ (e .enum-told .given .1)
     (told-wrote _ _ _ 1 _ _ _ (w .convert-matrix .ensures) (t .tell-writing .ensures))
 

@@ -1,7 +1,7 @@
 -- A scheme is read, then a matrix against it is converted.
 -- Assumes nothing.
-use Rattle.robot.specs.Library.{givesWrote, notConverted, convertAgainst, convertMatrixBytes}
-use Rattle.robot.proofs.CallLaws.{scheme-accepted, scheme-read, scheme-refused, not-converted}
+use Rattle.robot.specs.Library.{givesWrote, notWritten, convertAgainst, convertMatrixBytes}
+use Rattle.robot.proofs.CallLaws.{scheme-accepted, scheme-read, scheme-refused, not-written}
 use borrow.Author.Needs.{needs}
 use Rattle.robot.proofs.convert_bytes.slushferret_convert_matrix.Statement.{statement}
 use Rattle.robot.proofs.convert_bytes.slushferret_convert_matrix.Tie as tie
@@ -34,8 +34,8 @@ returns c =
     let n = t .before .before in
     let e = n .before .before in
     let r = e .before .before in
-    scheme-refused (givesWrote _) (notConverted _) (λ s n. convertAgainst _ _ s) _ _ (r .scheme-of .ensures) _ _ (e .enum-told2 .given .1)
-    _ _ (n .number .ensures) (t .before .at .ensures) (not-converted _ _ _ _ _ _ _ (t .tell .ensures))
+    scheme-refused (givesWrote _) (notWritten _) (λ s n. convertAgainst _ _ s) _ _ (r .scheme-of .ensures) _ _ (e .enum-told2 .given .1)
+    _ _ (n .number .ensures) (t .before .at .ensures) (not-written _ _ _ _ _ _ _ (t .tell .ensures))
 
 convert-of-requires : tie.Need-convert-of-requires
 convert-of-requires c κs =
@@ -55,7 +55,7 @@ returns-2 c =
     let t = c .before .before .before .before in
     let e = t .before .before .before .before in
     let r = e .before .before in
-    scheme-read (givesWrote _) (notConverted _) (λ s n. convertAgainst _ _ s) _ _ (r .scheme-of .ensures) _ (e .enum-told .given .1)
+    scheme-read (givesWrote _) (notWritten _) (λ s n. convertAgainst _ _ s) _ _ (r .scheme-of .ensures) _ (e .enum-told .given .1)
     (t .convert-of .ensures)
 
 pub slushferret-convert-matrix-spec : {M : Type 1} → statement M

@@ -1,7 +1,7 @@
 -- A scheme is read, then its converted bytes are written.
 -- Assumes nothing.
-use Rattle.robot.specs.Library.{givesWrote, notConverted, wrote, convertSchemeBytes}
-use Rattle.robot.proofs.CallLaws.{scheme-read, scheme-refused, not-converted, told-wrote}
+use Rattle.robot.specs.Library.{givesWrote, notWritten, wrote, convertSchemeBytes}
+use Rattle.robot.proofs.CallLaws.{scheme-read, scheme-refused, not-written, told-wrote}
 use Rattle.convert.specs.Convert.{convertSchemeInto}
 use borrow.Author.Needs.{needs}
 use Rattle.robot.proofs.convert_bytes.slushferret_convert_scheme.Statement.{statement}
@@ -35,8 +35,8 @@ returns c =
     let n = t .before .before in
     let e = n .before .before in
     let r = e .before .before in
-    scheme-refused (givesWrote _) (notConverted _) (λ s n. wrote 1 (convertSchemeInto _ s)) _ _ (r .scheme-of .ensures) _ _ (e .enum-told2 .given .1)
-    _ _ (n .number .ensures) (t .before .at .ensures) (not-converted _ _ _ _ _ _ _ (t .tell .ensures))
+    scheme-refused (givesWrote _) (notWritten _) (λ s n. wrote 1 (convertSchemeInto _ s)) _ _ (r .scheme-of .ensures) _ _ (e .enum-told2 .given .1)
+    _ _ (n .number .ensures) (t .before .at .ensures) (not-written _ _ _ _ _ _ _ (t .tell .ensures))
 
 convert-scheme-requires : tie.Need-convert-scheme-requires
 convert-scheme-requires c κs = search needs
@@ -56,7 +56,7 @@ returns-2 c =
     let t = c .before .before in
     let w = t .before .before .before .before in
     let e = w .before .before .before in
-    scheme-read (givesWrote _) (notConverted _) (λ s n. wrote 1 (convertSchemeInto _ s)) _ _ (e .before .before .scheme-of .ensures) _ (e .enum-told .given .1)
+    scheme-read (givesWrote _) (notWritten _) (λ s n. wrote 1 (convertSchemeInto _ s)) _ _ (e .before .before .scheme-of .ensures) _ (e .enum-told .given .1)
     (told-wrote _ _ _ 1 _ _ _ (w .convert-scheme .ensures) (t .tell-writing .ensures))
 
 pub slushferret-convert-scheme-spec : {M : Type 1} → statement M
