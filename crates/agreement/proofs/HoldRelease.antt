@@ -33,8 +33,7 @@ use Rattle.hold.specs.Marking.{markOnPaper, markSeat, markThing}
 use Rattle.hold.specs.Promises.{paperMarked}
 use Rattle.hold.proofs.Marks.{mark-known, marks}
 use Rattle.robot.specs.Library.{Wrote, wrote, notWritten, markedInto, markAgainst, markBytes, holdBytes, releaseBytes}
-use Rattle.agreement.specs.LibraryAgrees.{writtenBytes, Bytes}
-use Rattle.agreement.specs.OnHold.{readIn}
+use Rattle.agreement.specs.LibraryAgrees.{writtenBytes, Bytes, readIn}
 use Rattle.agreement.proofs.LibraryCalls.{empty, with-scheme, with-matrix}
 use Rattle.agreement.proofs.LibraryRuns.{Held, bytes-read, bytes-small, matrix-held}
 use Rattle.agreement.proofs.Later.{read-as, there-known, reads-there}

@@ -34,9 +34,8 @@ use Rattle.matrix_bytes.proofs.FunctionTrips.{function-trips as matrix-trips}
 use Rattle.engine.specs.List.{runOn}
 use Rattle.robot.specs.Library.{Ran, runBytes}
 use Rattle.agreement.specs.Agreement.{leftIn, leftBy}
-use Rattle.agreement.specs.LibraryAgrees.{matrixAfter, Bytes, IsScheme, IsMatrix}
+use Rattle.agreement.specs.LibraryAgrees.{matrixAfter, Bytes, IsScheme, IsMatrix, readIn}
 use Rattle.agreement.specs.NeverAgain.{Run, afterRuns, Call, keptImage, imageAfter, hasThing}
-use Rattle.agreement.specs.OnHold.{readIn}
 use Rattle.agreement.proofs.Agreement.{asked, room, ranIf, ran}
 use Rattle.agreement.proofs.LibraryCalls.{empty}
 use Rattle.agreement.proofs.LibraryRuns.{Held, had-room, matrix-held}
@@ -118,7 +117,7 @@ image-is bytes small s x = go (acceptedScheme s && eqb (length empty) 2304) refl
 
 pub reads : (scheme image : List ℕ) → Bytes scheme → Bytes image → (x : ℕ) → T (hasThing scheme image x) →
     (s : Scheme) × (m : Matrix) × Held scheme image s m
-unfolding hasThing
+unfolding hasThing readIn
 reads scheme image small small′ x there =
     let s : Scheme = readScheme scheme noScheme .scheme in
     let (ok, m, is) = image-is image small′ s x there in
@@ -137,7 +136,7 @@ there-known th x e = rw (← (is-known th x), e) tt
 pub reads-there : (scheme image : List ℕ) → Bytes scheme → Bytes image → (x : ℕ) (t : Thing) → thingAt (readIn scheme image .things) x ≡ some t →
     (s : Scheme) × (m : Matrix) × Held scheme image s m × (thingAt (m .things) x ≡ some t)
 reads-there scheme image small small′ x t is =
-    let (s, m, h) = reads scheme image small small′ x (unfold hasThing readIn in there-known _ x is) in
+    let (s, m, h) = reads scheme image small small′ x (unfold hasThing in there-known _ x is) in
     (s, m, h, rw (read-as h) at is)
 
 -- ---- calls

@@ -15,7 +15,6 @@ use Rattle.model.proofs.Find.{is-known}
 use Rattle.model.proofs.NeverAgain.{Since, run-since, none-above, no-return}
 use Rattle.agreement.specs.LibraryAgrees.{Bytes}
 use Rattle.agreement.specs.NeverAgain.{Run, afterRuns, Call, imageAfter, hasThing, NeverAgain}
-use Rattle.agreement.specs.OnHold.{readIn}
 use Rattle.agreement.proofs.EachReply.{accepted}
 use Rattle.agreement.proofs.LibraryRuns.{Held}
 use Rattle.agreement.proofs.Later.{Later, runs-later, stranger-stays, reads, read-as, calls-later}
@@ -52,7 +51,7 @@ of-runs s m between later x there gone = rw (runs-append s m between later) (go 
 
 -- ---- calls
 has-known : {scheme image : List ℕ} {s : Scheme} {m : Matrix} → Held scheme image s m → (x : ℕ) → hasThing scheme image x ≡ known (m .things) x
-unfolding hasThing readIn
+unfolding hasThing
 has-known h x = ap (λ (m : Matrix). known (m .things) x) (read-as h)
 
 calls-append : (scheme image : List ℕ) (cs more : List Call) →

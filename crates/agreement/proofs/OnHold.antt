@@ -25,9 +25,9 @@ use Rattle.engine.specs.Step.{answered, requestOn}
 use Rattle.hold.specs.Marking.{markedIf, markOnPaper}
 use Rattle.hold.specs.OnHold.{takesPart, refusedEarly, IsOnHold}
 use Rattle.hold.proofs.OnHold.{on-hold as on-paper}
-use Rattle.agreement.specs.LibraryAgrees.{Bytes}
+use Rattle.agreement.specs.LibraryAgrees.{Bytes, readIn}
 use Rattle.agreement.specs.NeverAgain.{Run, afterRuns, Call, imageAfter}
-use Rattle.agreement.specs.OnHold.{HeldIn, Untouched, TookNoPart, readIn, Both, OnHold}
+use Rattle.agreement.specs.OnHold.{HeldIn, Untouched, TookNoPart, Both, OnHold}
 use Rattle.agreement.proofs.EachReply.{accepted, same-answer}
 use Rattle.agreement.proofs.HoldRelease.{as-on-paper, back-again}
 use Rattle.agreement.proofs.Later.{Later, runs-later, stranger-stays, there-known, reads-there, read-as, calls-later}

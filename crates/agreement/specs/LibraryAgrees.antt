@@ -8,7 +8,7 @@ use lib.ListN.{length, take, drop, getD, replicate}
 use Rattle.model.specs.Request.{Request}
 use Rattle.model.specs.Answers.{replyTo, replyWidth, replyBytes, repliesIn}
 use Rattle.model.specs.Arrays.{noScheme}
-use Rattle.model.specs.Seats.{Matrix, noThings, standsFor}
+use Rattle.model.specs.Seats.{Matrix, matrixOf, noThings, standsFor}
 use Rattle.model.specs.declared.Scheme.{Scheme}
 use Rattle.conversion.specs.Conversion.{convertScheme}
 use Rattle.conversion.specs.Demand3.{Mirrors, Within}
@@ -35,7 +35,7 @@ written c = getD (c .report) 3 0
 abbrev pub besidesWritten : Called → List ℕ × List ℕ
 besidesWritten c = (take 3 (c .report), drop 4 (c .report))
 
--- the bytes that a conversion wrote, or a mark; and those of the matrix that a run left
+-- the bytes that a conversion, a hold or a release wrote, and those of the matrix that a run left
 unfoldable pub writtenBytes : Wrote → List ℕ
 writtenBytes w = take (written (w .called)) (w .out)
 
@@ -56,6 +56,10 @@ IsScheme bytes s = readScheme bytes noScheme ≡ record { answer = Done (length 
 abbrev pub IsMatrix : List ℕ → Scheme → Matrix → Type 0
 IsMatrix bytes s m =
     _≡_ {A = MatrixAnswer × List ℕ} (readMatrix bytes s noThings (replicate 2304 0)) (record { answer = Done (length bytes); things = m .things }, m .cells)
+
+-- what a call reads of an image: where scheme or image can't be read, a matrix of no things
+unfoldable pub readIn : List ℕ → List ℕ → Matrix
+readIn scheme image = let r = readMatrix image (readScheme scheme noScheme .scheme) noThings (replicate 2304 0) in matrixOf (r .0 .things) (r .1)
 
 -- these requests of a scheme were run, and each was carried out: as many answers were stored, each says so, with the steps of all its tests and operations,
 -- and no record was left unread

@@ -4,16 +4,12 @@ use Prim.Native.Nat.{ℕ}
 use mathlib.Core.Bool.{Bool, not, cond}
 use mathlib.Core.List.{List, [], _∷_, _++_}
 use lib.Dec.{T, eqb}
-use lib.ListN.{replicate}
-use Rattle.model.specs.Arrays.{noScheme}
-use Rattle.model.specs.Seats.{Matrix, known, noThings}
+use Rattle.model.specs.Seats.{Matrix, known}
 use Rattle.model.specs.declared.Scheme.{Scheme}
-use Rattle.scheme_bytes.specs.Answers.{readScheme}
-use Rattle.matrix_bytes.specs.Answers.{readMatrix}
 use Rattle.engine.specs.List.{runOn}
 use Rattle.robot.specs.Library.{runBytes}
 use Rattle.agreement.specs.Agreement.{leftIn}
-use Rattle.agreement.specs.LibraryAgrees.{matrixAfter, Bytes}
+use Rattle.agreement.specs.LibraryAgrees.{matrixAfter, Bytes, readIn}
 
 -- ---- `run_list`, called again and again on one matrix, each time with a list and with a buffer for the replies
 pub record Run : Type 0 where
@@ -42,7 +38,7 @@ imageAfter scheme image (c ∷ cs) = imageAfter scheme (keptImage scheme image c
 
 -- is x a thing's id in an image, as every call reads it? Where scheme or image can't be read, no id is
 unfoldable pub hasThing : List ℕ → List ℕ → ℕ → Bool
-hasThing scheme image x = known (readMatrix image (readScheme scheme noScheme .scheme) noThings (replicate 2304 0) .0 .things) x
+hasThing scheme image x = known (readIn scheme image .things) x
 
 pub record NeverAgain : Type 0 where
   -- An id is a thing's, and after some runs it isn't any more. Then it never is after more of them: of any scheme and matrix handed in, a stranger's included.

@@ -6,23 +6,20 @@ use mathlib.Core.Option.{some}
 use mathlib.Core.List.{List}
 use mathlib.Core.Path.{_≡_}
 use lib.Dec.{T, eqb}
-use lib.ListN.{length, replicate}
+use lib.ListN.{length}
 use Rattle.laws.specs.Check.{between}
-use Rattle.model.specs.Arrays.{noScheme}
 use Rattle.model.specs.Request.{Thing, Outcome, done, refused}
 use Rattle.model.specs.Papers.{State}
-use Rattle.model.specs.Seats.{Matrix, matrixOf, known, thingAt, cell, noThings, standsFor}
+use Rattle.model.specs.Seats.{Matrix, matrixOf, known, thingAt, cell, standsFor}
 use Rattle.model.specs.declared.Head.{Head}
 use Rattle.model.specs.declared.Reply.{Reply}
 use Rattle.model.specs.declared.Scheme.{Scheme}
 use Rattle.conversion.specs.Demand3.{Mirrors, Within}
-use Rattle.scheme_bytes.specs.Answers.{readScheme}
-use Rattle.matrix_bytes.specs.Answers.{readMatrix}
 use Rattle.engine.specs.Step.{requestOn}
 use Rattle.hold.specs.Marking.{markOnPaper}
 use Rattle.hold.specs.OnHold.{takesPart}
 use Rattle.robot.specs.Library.{markBytes, holdBytes, releaseBytes}
-use Rattle.agreement.specs.LibraryAgrees.{writtenBytes, Bytes}
+use Rattle.agreement.specs.LibraryAgrees.{writtenBytes, Bytes, readIn}
 use Rattle.agreement.specs.NeverAgain.{Run, afterRuns, Call, imageAfter}
 
 -- X is a thing of a matrix in memory, and on hold
@@ -41,10 +38,6 @@ pub record TookNoPart (m : Matrix) (reply : Reply) (left : Matrix) : Type 0 wher
   pub number : T (between 10 13 (reply .number) || eqb (reply .number) 18 || eqb (reply .number) 27)
   pub noSteps : reply .steps ≡ 0
   pub same : left ≡ m
-
--- what a call reads of an image: where scheme or image can't be read, a matrix of no things
-unfoldable pub readIn : List ℕ → List ℕ → Matrix
-readIn scheme image = let r = readMatrix image (readScheme scheme noScheme .scheme) noThings (replicate 2304 0) in matrixOf (r .0 .things) (r .1)
 
 -- both were marked, and then mirror or lie within each other; or both were refused with one number
 unfoldable pub Both : (State → State → Type 0) → Outcome State → Outcome State → Type 0
