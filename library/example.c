@@ -1,6 +1,7 @@
 /* The outline's key example through the library: the office loads, retires the key, and can't load again; the converted
- * table gives the robot the same answers, in more steps. Then a robot is on hold while it is in the workshop, and keys are
- * issued and scrapped, and no number is used again. What it prints is example.expected. */
+ * table gives the robot the same answers, in more steps. Then a robot is on hold while it is in the workshop, keys are issued
+ * and scrapped, and no number is used again, and what an old robot stored moves to a new one. What it prints is
+ * example.expected. */
 #include "slushferret.h"
 #include <stdio.h>
 #include <stdlib.h>
@@ -37,6 +38,14 @@ static const uint8_t office_scheme[] = {
 static const uint8_t office_matrix[] = {
     4, 0, 7, 0, 1, 1, 5, 0,
     3, 0, 4, 0, 5, 0, 0, /* 5 is a manager */
+};
+
+/* as a robot stored it before there was a highest id */
+static const uint8_t old_matrix[] = {
+    2, 0, 3, 0, 1, 2,
+    3, 0, 4, 0, 5, 0, 0,                              /* 5 is a manager */
+    3, 0, 4, 0, 31, 0, 1,                             /* 31 is a key */
+    12, 0, 5, 0, 5, 0, 31, 0, 1, 0, 0, 0, 0, 0, 0, 0, /* the manager owns the key */
 };
 
 enum { ISSUE = 0, SCRAP = 1 };
@@ -146,6 +155,41 @@ static void run_keys(uint8_t *after) {
     print_matrix("keys afterwards", after, written);
 }
 
+static int are_same(const uint8_t *one, size_t one_length, const uint8_t *other, size_t other_length) {
+    size_t k = 0;
+    while (k < one_length && k < other_length && one[k] == other[k]) {
+        k++;
+    }
+    return k == one_length && k == other_length;
+}
+
+/* what an old robot stored moves to a new one, and back; once key 32 is issued and scrapped there, an old robot wouldn't know
+ * that there ever was one, and so it can't go back */
+static void run_move(uint8_t *after) {
+    static const uint8_t commands[] = {ISSUE, SCRAP};
+    static const uint16_t ids[][2] = {{5, 32}, {5, 32}};
+    static uint8_t requests[2 * SLUSHFERRET_REQUEST_BYTES];
+    static uint8_t moved[SLUSHFERRET_MATRIX_BYTES];
+    static uint8_t old[SLUSHFERRET_OLD_MATRIX_BYTES];
+    const uint8_t *with = office_scheme;
+    size_t with_length = sizeof office_scheme;
+    must_refuse("old matrix as it is", slushferret_check_matrix(with, with_length, old_matrix, sizeof old_matrix, report, SLUSHFERRET_REPORT),
+                SLUSHFERRET_KIND);
+
+    size_t moved_length = must("forward", slushferret_forward(with, with_length, old_matrix, sizeof old_matrix, moved, sizeof moved,
+                                                              report, SLUSHFERRET_REPORT));
+    print_matrix("old matrix moved forward", moved, moved_length);
+    size_t old_length = must("back", slushferret_back(with, with_length, moved, moved_length, old, sizeof old, report, SLUSHFERRET_REPORT));
+    printf("and back, %zu bytes: %s\n", old_length,
+           are_same(old, old_length, old_matrix, sizeof old_matrix) ? "as they were" : "other ones");
+
+    size_t length = write_requests(commands, ids, 2, requests, sizeof requests);
+    size_t written = run("new robot", with, with_length, moved, moved_length, requests, length, after);
+    print_matrix("new robot's matrix afterwards", after, written);
+    must_refuse("back from the new robot", slushferret_back(with, with_length, after, written, old, sizeof old, report, SLUSHFERRET_REPORT),
+                SLUSHFERRET_HIGHEST_LOST);
+}
+
 /* the archive is this header's, and the tables can be read */
 static void check(void) {
     if (slushferret_version() != SLUSHFERRET_VERSION) {
@@ -192,5 +236,6 @@ int main(void) {
 
     run_workshop(after);
     run_keys(after);
+    run_move(after);
     return EXIT_SUCCESS;
 }

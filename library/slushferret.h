@@ -30,7 +30,7 @@ extern "C" {
 
 /* The version of what stands here: it moves when a format or a function's meaning moves. slushferret_version gives that of
  * the archive; a program that compares the two knows that header and archive belong together. */
-#define SLUSHFERRET_VERSION 6
+#define SLUSHFERRET_VERSION 7
 
 /* the slots of a report */
 enum {
@@ -46,15 +46,15 @@ enum {
 enum {
     SLUSHFERRET_IN_NOTHING = 0,
     SLUSHFERRET_IN_SCHEME = 1,
-    SLUSHFERRET_IN_MATRIX = 2,
+    SLUSHFERRET_IN_MATRIX = 2, /* for slushferret_forward the old image */
     SLUSHFERRET_IN_REQUESTS = 3,
     SLUSHFERRET_IN_ANSWERS = 4, /* too short */
     SLUSHFERRET_IN_OUTPUT = 5   /* too short */
 };
 
 /* The numbers. 10 to 18 are answers to requests and never a function's number, but for 12, which slushferret_hold and
- * slushferret_release give too. 27 is of values that no reading gives; it can't come up here, since this library reads all
- * that it is given. */
+ * slushferret_release give too. 23 is slushferret_back's alone. 27 is of values that no reading gives; it can't come up here,
+ * since this library reads all that it is given. */
 enum {
     SLUSHFERRET_DONE = 0,
     SLUSHFERRET_CUT = 1,             /* fewer than 4 bytes left for a record's front, or its body runs past the end */
@@ -78,6 +78,7 @@ enum {
     SLUSHFERRET_CHANGES_THINGS = 20, /* conversion: a command creates or destroys */
     SLUSHFERRET_RIGHTS = 21,         /* conversion: more than 32 rights */
     SLUSHFERRET_OPERATIONS = 22,     /* conversion: a command with more than 16 operations */
+    SLUSHFERRET_HIGHEST_LOST = 23,   /* the way back: the highest id isn't the highest listed one, and would be lost */
     SLUSHFERRET_STRANGE = 27         /* a value that no reading gives */
 };
 
@@ -85,6 +86,7 @@ enum {
 enum {
     SLUSHFERRET_SCHEME_HEAD = 1,
     SLUSHFERRET_COMMAND = 2,
+    SLUSHFERRET_OLD_MATRIX_HEAD = 3, /* without a highest id: in what slushferret_forward takes and slushferret_back writes */
     SLUSHFERRET_THING = 4,
     SLUSHFERRET_CELL = 5,
     SLUSHFERRET_REQUEST = 6,
@@ -108,11 +110,12 @@ enum {
 enum {
     SLUSHFERRET_SCHEME_BYTES = 6633,
     SLUSHFERRET_MATRIX_BYTES = 37208,
+    SLUSHFERRET_OLD_MATRIX_BYTES = 37206,
     SLUSHFERRET_REQUEST_BYTES = 22
 };
 
 /* Where in a matrix's bytes the highest id stands that it ever had: two bytes, the low one first. Ids up to it are never
- * created again, so a new key gets one above it. */
+ * created again, so a new key gets one above it. An old image has no such bytes. */
 enum { SLUSHFERRET_HIGHEST_AT = 6 };
 
 /* An answer to a request in the lent buffer: which of its bytes says what. */
@@ -191,6 +194,32 @@ uint8_t slushferret_release(const uint8_t *scheme, size_t scheme_length,
                             const uint8_t *matrix, size_t matrix_length, uint16_t id,
                             uint8_t *out, size_t out_length,
                             size_t *report, size_t report_length);
+
+/* Moving stored matrices. Farms update on different days: what a robot stored before there was a highest id must go into a
+ * robot with this library, and back into another one while that is still old. An old image is a matrix's bytes but for the
+ * head, which is of kind SLUSHFERRET_OLD_MATRIX_HEAD and has n and the number of things as its whole body, and so is 2 bytes
+ * shorter. Only slushferret_forward takes one: to all others that take a matrix its head is 2 at 0, as a new head is to it.
+ *
+ * Turns an old image into a matrix with the highest id, which is the highest listed one, 0 for no things. All else stays, and
+ * so do the marks. The bytes, 2 more than the old image's, go to out; slushferret_back gives the old image again. In this
+ * order: the scheme's fault; the old image's (1 to 7), in the matrix; 9, in the output. */
+uint8_t slushferret_forward(const uint8_t *scheme, size_t scheme_length,
+                            const uint8_t *old, size_t old_length,
+                            uint8_t *out, size_t out_length,
+                            size_t *report, size_t report_length);
+
+/* Turns a matrix into an old image, for a robot that is still old. The bytes, 2 fewer than the matrix's, go to out;
+ * slushferret_forward gives the matrix again.
+ * 23, in the matrix at 0, is given exactly if the highest id isn't the highest listed one (with no things: if it isn't 0). An
+ * old image has no place for it: it would be lost, and an old robot might give a retired key's number out again, as might a
+ * new one that the image comes to later. Such a matrix must stay with robots that have this library.
+ * A thing on hold stays of kind SLUSHFERRET_HELD_THING. A robot from before there were marks refuses that with 2 rather than
+ * lose the mark, so that only a matrix with nothing on hold can go there.
+ * In this order: the scheme's fault; the matrix's (1 to 7); 23; 9, in the output. */
+uint8_t slushferret_back(const uint8_t *scheme, size_t scheme_length,
+                         const uint8_t *matrix, size_t matrix_length,
+                         uint8_t *out, size_t out_length,
+                         size_t *report, size_t report_length);
 
 /* Writes a request's record at a position of out; report[SLUSHFERRET_WRITTEN] is the position behind it, where the next one goes. 4 for
  * more than 8 ids, in the requests; then 9, in the output. Neither the command nor the ids are checked: a run does. */

@@ -1,8 +1,9 @@
 /* The cases of tests/compare, from standard input, for the programs here that call the library on them.
  *
  * A case: scheme's length, matrix's, list's, room, 1 if buffers of just the right length are to be tried, number of direct
- * requests, number of marks (4 bytes each); the bytes of the first three; then each direct request: command (1), ids (1), 2
- * bytes an id; then each mark: id (2), 1 to hold or 0 to release (1). All little-endian. */
+ * requests, number of marks, number of images, the room to move these into (4 bytes each); the bytes of the first three; then
+ * each direct request: command (1), ids (1), 2 bytes an id; then each mark: id (2), 1 to hold or 0 to release (1); then each
+ * image: its length (4), 1 to move it forward or 0 to move it back (1), its bytes. All little-endian. */
 #ifndef CASES_H
 #define CASES_H
 
@@ -77,20 +78,21 @@ static void take_part(struct part *part, uint32_t length) {
 }
 
 /* The first three parts, and what else the case's head says: room, whether buffers of just the right length are to be tried,
- * and how many direct requests and then marks are to be taken next. */
+ * how many direct requests, then marks, then images are to be taken next, and the images' room. */
 struct head {
     size_t room;
     int edges;
-    uint32_t direct, marks;
+    uint32_t direct, marks, images;
+    size_t images_room;
 };
 
 static struct head take_case(struct part *scheme, struct part *matrix, struct part *requests) {
-    uint32_t numbers[7];
+    uint32_t numbers[9];
     take(numbers, sizeof numbers);
     take_part(scheme, numbers[0]);
     take_part(matrix, numbers[1]);
     take_part(requests, numbers[2]);
-    return (struct head){numbers[3], numbers[4] == 1, numbers[5], numbers[6]};
+    return (struct head){numbers[3], numbers[4] == 1, numbers[5], numbers[6], numbers[7], numbers[8]};
 }
 
 static void take_direct(struct direct *request) {
@@ -106,6 +108,16 @@ static void take_mark(struct mark *mark) {
     take(bytes, sizeof bytes);
     mark->id = (uint16_t)(bytes[0] + 256 * bytes[1]);
     mark->held = bytes[2] == 1;
+}
+
+/* Gives whether the image is to be moved forward. */
+static int take_image(struct part *image) {
+    uint32_t length;
+    uint8_t way;
+    take(&length, sizeof length);
+    take(&way, sizeof way);
+    take_part(image, length);
+    return way == 1;
 }
 
 #endif

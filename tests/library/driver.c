@@ -19,13 +19,14 @@ enum {
     REPORT = SLUSHFERRET_REPORT + 2 /* two more numbers than are told stand as a guard */
 };
 
-enum { CHECK_SCHEME = 1, CHECK_MATRIX, CONVERT_SCHEME, CONVERT_MATRIX, RUN, WRITE_REQUEST, HOLD, RELEASE, INPUTS };
+enum { CHECK_SCHEME = 1, CHECK_MATRIX, CONVERT_SCHEME, CONVERT_MATRIX, RUN, WRITE_REQUEST, HOLD, RELEASE, FORWARD, BACK, INPUTS };
 
 struct buffer {
     uint8_t bytes[GUARD + ROOM + GUARD];
 };
 
 static struct part scheme, matrix, requests, now; /* now: the matrix so far, one by one */
+static struct part image, moved;                  /* one to be moved, and what that gave */
 static struct buffer answers, out, pattern;
 static size_t report[REPORT];
 
@@ -90,6 +91,12 @@ static void clear_report(void) {
     }
 }
 
+/* What the last call says that it wrote to out, of which so many bytes were lent. */
+static void keep(struct part *after, size_t lent) {
+    after->length = report[SLUSHFERRET_WRITTEN] <= lent ? report[SLUSHFERRET_WRITTEN] : 0;
+    memcpy(after->bytes, out.bytes + GUARD, after->length);
+}
+
 /* ---- the calls, each with so many elements lent; those that can write give how many bytes of out are in use */
 
 static void check_scheme(size_t report_length) {
@@ -128,8 +135,7 @@ static void run(const uint8_t *list, size_t list_length, const struct part *on, 
                                      answers.bytes + GUARD, answers_lent, out.bytes + GUARD, out_lent, report, SLUSHFERRET_REPORT);
     tell_call(RUN, number);
     if (after) {
-        after->length = report[SLUSHFERRET_WRITTEN] <= out_lent ? report[SLUSHFERRET_WRITTEN] : 0;
-        memcpy(after->bytes, out.bytes + GUARD, after->length);
+        keep(after, out_lent);
     }
     tell_buffer(&answers, answers_lent);
     tell_buffer(&out, out_lent);
@@ -153,13 +159,24 @@ static size_t set_mark(const struct mark *mark, const struct part *on, size_t le
     uint8_t number = (mark->held ? slushferret_hold : slushferret_release)(scheme.bytes, scheme.length, on->bytes, on->length, mark->id,
                                                                            out.bytes + GUARD, lent, report, SLUSHFERRET_REPORT);
     tell_call(mark->held ? HOLD : RELEASE, number);
-    size_t written = report[SLUSHFERRET_WRITTEN];
     if (after && number == SLUSHFERRET_DONE) {
-        after->length = written <= lent ? written : 0;
-        memcpy(after->bytes, out.bytes + GUARD, after->length);
+        keep(after, lent);
     }
     tell_buffer(&out, lent);
-    return written;
+    return report[SLUSHFERRET_WRITTEN];
+}
+
+/* Moves an image forward or back; `after` gets what was written, and stays where that is refused. */
+static size_t move_image(int forward, const struct part *from, size_t lent, struct part *after) {
+    clear_report();
+    uint8_t number = (forward ? slushferret_forward : slushferret_back)(scheme.bytes, scheme.length, from->bytes, from->length,
+                                                                        out.bytes + GUARD, lent, report, SLUSHFERRET_REPORT);
+    tell_call(forward ? FORWARD : BACK, number);
+    if (after && number == SLUSHFERRET_DONE) {
+        keep(after, lent);
+    }
+    tell_buffer(&out, lent);
+    return report[SLUSHFERRET_WRITTEN];
 }
 
 /* ---- a case */
@@ -253,24 +270,48 @@ static void mark_matrix(size_t room, int edges, int carried_out) {
     }
 }
 
+/* An image of the case: with the images' room, with a large buffer, and where that worked with just enough and with one byte
+ * less; then the other way what it gave. Gives the hash of the images so far with this one, as it is after all these calls. */
+static uint64_t move_given(size_t room, int edges, uint64_t before) {
+    int forward = take_image(&image);
+    move_image(forward, &image, room, 0);
+    size_t written = move_image(forward, &image, LARGE, &moved);
+    if (edges && written > 0) {
+        move_image(forward, &image, written, 0);
+        move_image(forward, &image, written - 1, 0);
+    }
+    if (written > 0) {
+        move_image(!forward, &moved, LARGE, 0);
+    }
+    return hash(before, image.bytes, image.length);
+}
+
+/* The matrix so far back, and forward again where that worked. */
+static void move_now(void) {
+    if (move_image(0, &now, LARGE, &moved) > 0) {
+        move_image(1, &moved, LARGE, 0);
+    }
+}
+
 static void start_again(void) {
     memcpy(now.bytes, matrix.bytes, matrix.length);
     now.length = matrix.length;
 }
 
 /* All is read by now; what the library was only lent to read must be as it was read. */
-static void tell_inputs(void) {
+static void tell_inputs(uint64_t images) {
     uint64_t all = hash(EMPTY, scheme.bytes, scheme.length);
     all = hash(all, matrix.bytes, matrix.length);
     tell(INPUTS);
     tell(hash(all, requests.bytes, requests.length));
+    tell(images);
 }
 
 static void run_case(void) {
     struct head head = take_case(&scheme, &matrix, &requests);
     size_t room = head.room;
     int edges = head.edges;
-    if (room > ROOM) {
+    if (room > ROOM || head.images_room > ROOM) {
         STOP("a case has more room than the driver has");
     }
 
@@ -287,6 +328,9 @@ static void run_case(void) {
     for (uint32_t k = 0; k < head.direct; k++) {
         behind = direct(room, behind, carried_out);
     }
+    if (carried_out) {
+        move_now();
+    }
     start_again();
     for (uint32_t k = 0; k < head.marks; k++) {
         mark_matrix(room, edges, carried_out);
@@ -294,7 +338,11 @@ static void run_case(void) {
     if (carried_out) {
         run(requests.bytes, requests.length, &now, LARGE, LARGE, 0);
     }
-    tell_inputs();
+    uint64_t images = EMPTY;
+    for (uint32_t k = 0; k < head.images; k++) {
+        images = move_given(head.images_room, edges, images);
+    }
+    tell_inputs(images);
 }
 
 int main(void) {

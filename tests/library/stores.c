@@ -1,6 +1,7 @@
 /* Counts the stores of a matrix's conversion to the buffer that it is lent, in the code that robots link: every byte of the
  * robot's matrix is stored to once, a cell's rights by one instruction; no other byte at all, and a conversion that is refused
- * stores nothing.
+ * stores nothing. A stored matrix that is moved forward or back stores to the bytes that it writes and to no other, and one
+ * that is refused stores nothing either.
  *
  *   stores          of the cases from standard input (cases.h)
  *   stores control  of 32 stores to one cell, right by right, made here: whether this machine can count them
@@ -116,12 +117,24 @@ static size_t breaking(size_t from, size_t to, unsigned often) {
 
 /* ---- what is counted */
 
-static struct part scheme, matrix, requests;
+enum { IMAGES = 3 }; /* so many of a case's images are counted: some cases have thousands */
+
+static struct part scheme, matrix, requests, image;
 static size_t report[SLUSHFERRET_REPORT];
 static size_t conversions, bytes, instructions, cells, refusals;
+static size_t moves, moved, unmoved; /* moves that worked, their bytes, and those that were refused */
+static unsigned most;                /* the most stores of a move to one byte */
 
 static uint8_t convert(size_t room) {
     return slushferret_convert_matrix(scheme.bytes, scheme.length, matrix.bytes, matrix.length, lent, room, report, SLUSHFERRET_REPORT);
+}
+
+static uint8_t forward(size_t room) {
+    return slushferret_forward(scheme.bytes, scheme.length, image.bytes, image.length, lent, room, report, SLUSHFERRET_REPORT);
+}
+
+static uint8_t back(size_t room) {
+    return slushferret_back(scheme.bytes, scheme.length, image.bytes, image.length, lent, room, report, SLUSHFERRET_REPORT);
 }
 
 static uint8_t right_by_right(size_t at) {
@@ -164,17 +177,56 @@ static void hold_cells(unsigned number, size_t written) {
     }
 }
 
-/* A case's conversion, and where it worked that into a buffer one byte too short. */
-static void count_case(unsigned number) {
-    struct head head = take_case(&scheme, &matrix, &requests);
-    for (uint32_t k = 0; k < head.direct; k++) {
+/* Each of the bytes that a move wrote was stored to, no other was. */
+static void hold_move(unsigned number, size_t written) {
+    for (size_t k = 0; k < ROOM; k++) {
+        unsigned often = times(k);
+        if ((often > 0) != (k < written)) {
+            printf("case %u, %zu bytes written by a move: byte %zu was stored to %u times\n", number, written, k, often);
+            exit(EXIT_FAILURE);
+        }
+        most = often > most ? often : most;
+    }
+}
+
+/* A move of an image, and where it worked that into a buffer one byte too short. */
+static void count_move(unsigned number, uint8_t (*move)(size_t)) {
+    if (counted(move, ROOM) == SLUSHFERRET_DONE) {
+        size_t written = report[SLUSHFERRET_WRITTEN];
+        moves++;
+        moved += written;
+        hold_move(number, written);
+        if (counted(move, written - 1) != SLUSHFERRET_ROOM) {
+            STOP("a buffer that is too short was taken");
+        }
+    }
+    unmoved++;
+    hold_to(number, 0);
+}
+
+/* What of a case is taken but not counted. */
+static void pass_requests(const struct head *head) {
+    for (uint32_t k = 0; k < head->direct; k++) {
         struct direct request;
         take_direct(&request);
     }
-    for (uint32_t k = 0; k < head.marks; k++) {
+    for (uint32_t k = 0; k < head->marks; k++) {
         struct mark mark;
         take_mark(&mark);
     }
+}
+
+static void count_images(unsigned number, uint32_t images) {
+    for (uint32_t k = 0; k < images; k++) {
+        uint8_t (*move)(size_t) = take_image(&image) ? forward : back;
+        if (k < IMAGES) {
+            count_move(number, move);
+        }
+    }
+}
+
+/* A case's conversion, and where it worked that into a buffer one byte too short. */
+static void count_conversion(unsigned number) {
     if (counted(convert, ROOM) == SLUSHFERRET_DONE) {
         size_t written = report[SLUSHFERRET_WRITTEN];
         conversions++;
@@ -188,6 +240,13 @@ static void count_case(unsigned number) {
     }
     refusals++;
     hold_to(number, 0);
+}
+
+static void count_case(unsigned number) {
+    struct head head = take_case(&scheme, &matrix, &requests);
+    count_conversion(number);
+    pass_requests(&head);
+    count_images(number, head.images);
 }
 
 int main(int words, char **word) {
@@ -205,5 +264,7 @@ int main(int words, char **word) {
     }
     printf("%zu conversions store to each of their %zu bytes once, the rights of their %zu cells at once (%zu instructions); %zu refused ones store nothing\n",
            conversions, bytes, cells, instructions, refusals);
+    printf("%zu moves store to each of their %zu bytes and to no other (most stores to one byte: %u); %zu refused ones store nothing\n",
+           moves, moved, most, unmoved);
     return EXIT_SUCCESS;
 }

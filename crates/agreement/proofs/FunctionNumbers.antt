@@ -40,7 +40,7 @@ use Rattle.matrix_records.specs.Read.{head}
 use Rattle.matrix_records.specs.Answers as matrix-records
 use Rattle.matrix_records.specs.Answers.{asThingAt, asCellAt}
 use Rattle.matrix_records.specs.Told.{ofHead, ofThing, ofCell}
-use Rattle.matrix_bytes.specs.Read.{matrix}
+use Rattle.matrix_bytes.specs.Read.{rest, matrix}
 use Rattle.matrix_bytes.specs.Answers.{asMatrix}
 use Rattle.request_bytes.specs.Told.{ofRequestReading}
 use Rattle.request_bytes.specs.declared.answers.RequestReading.{RequestReading}
@@ -55,11 +55,11 @@ use Rattle.totals.specs.declared.answers.Totals.the-variants as total
 use Rattle.conversion.specs.Conversion.{conversionFault}
 use Rattle.convert.specs.Convert.{schemeFault, matrixFault, convertedBy, convertedScheme, cellsBy, convertedCells, ofConversion}
 use Rattle.convert.specs.Convert.{writtenBy, convertSchemeInto, convertMatrixInto}
-use Rattle.agreement.specs.Numbers.{ofAMatrix}
+use Rattle.agreement.specs.Numbers.{ofAPart, ofAMatrix}
 use Rattle.agreement.specs.Numbers.{oneOf, Gives}
 use Rattle.agreement.proofs.FaultNumbers.{passedFault, conversion-fault, unless-27}
 use Rattle.agreement.proofs.ReadNumbers.{passed, passedRequest}
-use Rattle.agreement.proofs.ReadNumbers.{matrix-only, list-only}
+use Rattle.agreement.proofs.ReadNumbers.{matrix-only, matrix-rest-only, list-only}
 
 -- ---- where success passes, and each refusal of an answer does, its number does
 module _ (ok : ℕ → Bool) (none-passes : T (ok 0)) where
@@ -114,7 +114,7 @@ any-record true true kind start len at = tt
 any-record true false kind start len at = tt
 any-record false body kind start len at = tt
 
--- ---- a matrix that is to be read: 27 where the scheme or the lent cells aren't right
+-- ---- a matrix, or what stands behind its head, that is to be read: 27 where the scheme, the lent cells or what a head stated aren't right
 pub a-matrix : (right : Bool) (h : Head) (bytes : List ℕ) (things : Things) (cells : List ℕ) →
     let r = cond right (asMatrix things cells (matrix h bytes 0)) (record { answer = reading.Refused 27 0; things = things }, cells) in
     Gives (27 ∷ ofAMatrix) (ofReading (r .0 .answer) .number)
@@ -123,6 +123,15 @@ a-matrix true h bytes things cells =
     let ok = oneOf (27 ∷ ofAMatrix) in
     of-reading ok tt (asMatrix things cells (matrix h bytes 0) .0 .answer) (matrix-only ok tt tt tt tt tt tt tt h bytes things cells)
 a-matrix false h bytes things cells = tt
+
+pub a-rest : (right : Bool) (h : Head) (bytes : List ℕ) (at highest count : ℕ) (things : Things) (cells : List ℕ) →
+    let r = cond right (asMatrix things cells (rest h highest count bytes at)) (record { answer = reading.Refused 27 0; things = things }, cells) in
+    Gives (27 ∷ ofAPart) (ofReading (r .0 .answer) .number)
+unfolding oneOf any ofAPart
+a-rest true h bytes at highest count things cells =
+    let ok = oneOf (27 ∷ ofAPart) in
+    of-reading ok tt (asMatrix things cells (rest h highest count bytes at) .0 .answer) (matrix-rest-only ok tt tt tt tt tt tt h bytes highest count at things cells)
+a-rest false h bytes at highest count things cells = tt
 
 -- ---- writing: 9, and the number of what isn't written at all
 module _ (ok : ℕ → Bool) (none-passes : T (ok 0)) (nine : T (ok 9)) where

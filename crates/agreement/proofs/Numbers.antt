@@ -31,7 +31,7 @@ use Rattle.matrix_records.specs.Read.{head, thing, cell}
 use Rattle.matrix_records.specs.Answers as matrix-records
 use Rattle.matrix_records.specs.Answers.{kindAt, anyRecordAt, readThing, readCell}
 use Rattle.matrix_bytes.specs.Read.{matrix}
-use Rattle.matrix_bytes.specs.Answers.{readMatrix, readMatrixByHead}
+use Rattle.matrix_bytes.specs.Answers.{readMatrix, readMatrixByHead, readRest}
 use Rattle.matrix_bytes.specs.Write.{matrixBytes, writeMatrix, writeMatrixByHead}
 use Rattle.matrix_bytes.specs.declared.answers.MatrixAnswer.{MatrixAnswer}
 use Rattle.matrix_bytes.proofs.ReadMatrix.{by-head}
@@ -39,9 +39,10 @@ use Rattle.request_bytes.specs.Read.{readRequest}
 use Rattle.request_bytes.specs.Write.{writeRequest, requestBytes as bytesOf}
 use Rattle.request_list.specs.List.{Listed, readList}
 use Rattle.convert.specs.Convert.{convertSchemeInto, convertMatrixInto}
+use Rattle.moving.specs.Answers.{forwardInto, backInto}
 use Rattle.robot.specs.Library.{Called, call, notRead, afterScheme, withScheme, afterMatrix, withMatrix, checkScheme, checkAgainst, checkMatrix}
 use Rattle.robot.specs.Library.{Ran, notRun, bytesAfter, endedBy, runMatrix, runAgainst, runBytes}
-use Rattle.robot.specs.Library.{Wrote, notWritten, convertSchemeBytes, convertAgainst, convertMatrixBytes, markAgainst, markBytes, requestBytes}
+use Rattle.robot.specs.Library.{Wrote, notWritten, convertSchemeBytes, convertAgainst, convertMatrixBytes, markAgainst, markBytes, forwardBytes, backBytes, requestBytes}
 use Rattle.robot.proofs.CallLaws.{scheme-accepted}
 use Rattle.robot.proofs.RunLaws.{read-accepted}
 use Rattle.agreement.specs.LibraryAgrees.{Bytes}
@@ -49,8 +50,9 @@ use Rattle.agreement.specs.Numbers.{table, ofARecord, ofARequest, ofAHea
 use Rattle.agreement.specs.Numbers.{oneOf, Numbers}
 use Rattle.agreement.proofs.ReadNumbers.{passed}
 use Rattle.agreement.proofs.ReadNumbers.{head-only, command-only, matrix-head-only, matrix-thing-only, matrix-cell-only, scheme-only, matrix-only, request-only, list-only}
-use Rattle.agreement.proofs.FunctionNumbers.{of-record, of-reading, of-request, of-head, of-command, of-matrix-head, of-thing, of-cell, against-head, any-record, a-matrix, if-may, of-scheme, of-cells, of-each, scheme-into, matrix-into, of-request-on, of-list, of-quiet-list, of-totals, writing-number}
+use Rattle.agreement.proofs.FunctionNumbers.{of-record, of-reading, of-request, of-head, of-command, of-matrix-head, of-thing, of-cell, against-head, any-record, a-matrix, a-rest, if-may, of-scheme, of-cells, of-each, bytes-written, scheme-into, matrix-into, of-request-on, of-list, of-quiet-list, of-totals, writing-number}
 use Rattle.agreement.proofs.MarkNumbers.{of-mark, of-mark-in-matrix, of-marked-bytes}
+use Rattle.agreement.proofs.MoveNumbers.{of-forward, of-back, moving-number}
 
 -- ---- what the library reads first, and what it does with that: where each refused reading's number passes, and what follows a reading, all passes
 abbrev schemeRead : List ℕ → SchemeAnswer
@@ -131,7 +133,7 @@ any-passed (reading.Refused k at) = tt
 
 -- ---- the functions: a number that is listed with one passes by computing
 pub numbers : Numbers
-unfolding all any allFrom oneOf table ofARecord ofARequest ofAHead ofACommand ofAScheme ofAPart ofAMatrix ofBoth ofAStep ofConverting readHead readCommand anyRecordAt matrix-records.readHead readThing readCell readMatrix readMatrixByHead writeRecord writeScheme writeMatrix writeMatrixByHead writeRequest checkScheme checkAgainst checkMatrix runAgainst runBytes convertSchemeBytes convertAgainst convertMatrixBytes markAgainst markBytes requestBytes
+unfolding all any allFrom oneOf table ofARecord ofARequest ofAHead ofACommand ofAScheme ofAPart ofAMatrix ofBoth ofAStep ofConverting readHead readCommand anyRecordAt matrix-records.readHead readThing readCell readMatrix readMatrixByHead readRest writeRecord writeScheme writeMatrix writeMatrixByHead writeRequest checkScheme checkAgainst checkMatrix runAgainst runBytes convertSchemeBytes convertAgainst convertMatrixBytes markAgainst markBytes forwardBytes backBytes requestBytes
 numbers = record {
   inTable = tt;
   aRecord = λ bytes at kinds. of-record (oneOf ofARecord) tt (recordAt bytes at kinds) (only-front (oneOf ofARecord) tt tt bytes at kinds);
@@ -159,8 +161,11 @@ numbers = record {
       of-cell ok tt n (th .ids) (kindAt bytes at) (against (acceptedHead h) read) (against-head ok tt (acceptedHead h) read fine-read);
   aMatrix = λ bytes s things cells. a-matrix (acceptedScheme s && eqb (length cells) 2304) (s .head) bytes things cells;
   aMatrixByHead = λ bytes h things cells. a-matrix (acceptedHead h && eqb (length cells) 2304) h bytes things cells;
+  aRest = λ bytes at h highest count things cells.
+      a-rest (acceptedHead h && leb count 48 && leb at (length bytes) && eqb (length cells) 2304) h bytes at highest count things cells;
   aRequest = λ bytes at. of-request (oneOf ofARequest) tt (readRequest bytes at .answer) (request-only (oneOf ofARequest) tt tt tt tt bytes at);
   aList = λ bytes. of-reading (oneOf ofARequest) tt (readList bytes .ending) (list-only (oneOf ofARequest) tt tt tt tt bytes);
+  bytesInto = bytes-written (oneOf (9 ∷ [])) tt tt;
   recordInto = λ out at kind body. if-may (oneOf (4 ∷ 9 ∷ [])) tt tt (leb (length body) 65535) 4 tt out at (recordBytes kind body);
   schemeInto = λ out s. if-may (oneOf (9 ∷ 27 ∷ [])) tt tt (acceptedScheme s) 27 tt out 0 (schemeBytes s);
   matrixInto = λ out s m. if-may (oneOf (9 ∷ 27 ∷ [])) tt tt (acceptedScheme s && acceptedMatrix (s .head) m) 27 tt out 0 (matrixBytes (s .head) m);
@@ -178,6 +183,8 @@ numbers = record {
   convertedInto = λ out s. scheme-into (oneOf (9 ∷ 27 ∷ ofConverting)) tt tt tt tt tt out s (or-right (acceptedScheme s) true tt);
   matrixConvertedInto = λ out s m.
       matrix-into (oneOf (9 ∷ 27 ∷ ofConverting)) tt tt tt tt tt out s m (or-right (acceptedScheme s && acceptedMatrix (s .head) m) true tt);
+  movedForward = λ old s out. of-forward (oneOf (9 ∷ 27 ∷ ofAMatrix)) tt tt tt tt tt tt tt tt tt s old out (or-right (acceptedScheme s) true tt);
+  movedBack = λ new s out. of-back (oneOf (9 ∷ 23 ∷ 27 ∷ ofAMatrix)) tt tt tt tt tt tt tt tt tt s new out tt (or-right (acceptedScheme s) true tt);
   checksScheme = λ scheme.
       let ok = oneOf ofAScheme in
       after-scheme (λ (c : Called). ok (c .number)) ok notRead (λ k where′ at t. t) scheme _ (scheme-only ok tt tt tt tt tt tt tt scheme noScheme) (λ n e. tt);
@@ -221,6 +228,14 @@ numbers = record {
       with-scheme good ok (notWritten out) (λ k where′ at t. t) tt tt tt tt tt tt tt scheme _ small
       (λ s n t. with-matrix good ok (notWritten out) (λ k where′ at u. u) tt tt tt tt tt tt tt s t matrix _
       (λ k e. of-marked-bytes ok tt tt tt s t (matrixIn (matrixRead s matrix)) (matrix-accepted s t matrix small′ k e) mark id out));
+  movesForward = λ scheme old out small.
+      let ok = oneOf (9 ∷ ofBoth) in
+      with-scheme (λ (w : Wrote). ok (w .called .number)) ok (notWritten out) (λ k where′ at t. t) tt tt tt tt tt tt tt scheme _ small
+      (λ s n t. moving-number ok (forwardInto old s out .0) (of-forward ok tt tt tt tt tt tt tt tt tt s old out (or-left (acceptedScheme s) false t)));
+  movesBack = λ scheme new out small.
+      let ok = oneOf (9 ∷ 23 ∷ ofBoth) in
+      with-scheme (λ (w : Wrote). ok (w .called .number)) ok (notWritten out) (λ k where′ at t. t) tt tt tt tt tt tt tt scheme _ small
+      (λ s n t. moving-number ok (backInto new s out .0) (of-back ok tt tt tt tt tt tt tt tt tt s new out tt (or-left (acceptedScheme s) false t)));
   writesRequest = λ out at command ids.
       writing-number (oneOf (4 ∷ 9 ∷ [])) 3 (writeRequest out at command ids .0)
       (if-may (oneOf (4 ∷ 9 ∷ [])) tt tt (leb (length ids) 8) 4 tt out at (bytesOf command ids));

@@ -160,6 +160,11 @@ either : {A : Type 0} (ok : ℕ → Bool) (b : Bool) (r q : Read ℕ Refusal A) 
 either ok true r q t u = t
 either ok false r q t u = u
 
+matrix-passed : (ok : ℕ → Bool) (things : Things) (cells : List ℕ) (r : Read ℕ Refusal Matrix) → T (fine (λ f. ok (f .number)) r) →
+    T (passed ok (asMatrix things cells r .0 .answer))
+matrix-passed ok things cells (got m next) t = tt
+matrix-passed ok things cells (fault f) t = t
+
 module _ (ok : ℕ → Bool) (one : T (ok 1)) (two : T (ok 2)) (three : T (ok 3)) (six : T (ok 6)) (h : Head) (s : List ℕ) (kinds : ℕ) where
   pub matrix-head-only : T (ok 4) → Only (λ f. ok (f .number)) (inRecord s kinds (λ kind. matrix-records.head h))
   matrix-head-only four = only-record ok one two three s kinds (λ kind. matrix-records.head h) (λ kind. matrix-head-body ok three six h four)
@@ -171,6 +176,37 @@ module _ (ok : ℕ → Bool) (one : T (ok 1)) (two : T (ok 2)) (three : T (ok 3)
 
     pub matrix-cell-only : (things : List ThingRecord) (last : CellRecord) → Only (λ f. ok (f .number)) (inRecord s kinds (λ kind. cell h things last))
     matrix-cell-only things last = only-record ok one two three s kinds (λ kind. cell h things last) (λ kind. cell-body ok three six h five seven things last)
+
+-- ---- what stands behind a matrix's head
+module _ (ok : ℕ → Bool) (one : T (ok 1)) (two : T (ok 2)) (three : T (ok 3)) (six : T (ok 6)) (five : T (ok 5)) (seven : T (ok 7)) (h : Head) (s : List ℕ) where
+  abbrev passes : Refusal → Bool
+  passes f = ok (f .number)
+
+  module _ {A S : Type 0} (p : S → Reader ℕ Refusal A) (next : S → A → S) (each : (st : S) → Only passes (p st)) where
+    to-end : (fuel : ℕ) (st : S) → Only passes (toEnd s p next fuel st)
+    unfolding toEnd
+    to-end zero st = λ i. tt
+    to-end (suc fuel) st = λ at.
+        let more = only-then passes (p st) _ (each st) (λ a. only-then passes (toEnd s p next fuel (next st a)) _ (to-end fuel (next st a)) (λ xs i. tt)) at in
+        either ok (eqb at (length s)) _ _ tt more
+
+  abbrev thingAt : ℕ → ℕ → Reader ℕ Refusal ThingRecord
+  thingAt highest last = inRecord s 272 (matrix-records.thing h highest last)
+
+  abbrev cellAt : List ThingRecord → CellRecord → Reader ℕ Refusal CellRecord
+  cellAt things last = inRecord s 32 (λ kind. cell h things last)
+
+  pub rest-fine : (highest count : ℕ) → Only passes (rest h highest count s)
+  unfolding rest
+  rest-fine highest count =
+      only-then passes (steps (thingAt highest) (λ last t. t .id) count 0) _
+      (only-steps passes (thingAt highest) (λ last t. t .id) (matrix-thing-only ok one two three six h s 272 five seven highest) count 0) (λ things.
+      only-then passes (toEnd s (cellAt things) (λ last c. c) (length s) start) _
+      (to-end (cellAt things) (λ last c. c) (matrix-cell-only ok one two three six h s 32 five seven things) (length s) start) (λ cells i. tt))
+
+  -- as `readRest` answers it, where it isn't refused by 27
+  pub matrix-rest-only : (highest count at : ℕ) (things : Things) (cells : List ℕ) → T (passed ok (asMatrix things cells (rest h highest count s at) .0 .answer))
+  matrix-rest-only highest count at things cells = matrix-passed ok things cells (rest h highest count s at) (rest-fine highest count at)
 
 module _ (ok : ℕ → Bool) (one : T (ok 1)) (two : T (ok 2)) (three : T (ok 3)) (four : T (ok 4)) (six : T (ok 6)) where
   abbrev pub told : Refusal → Bool
@@ -209,42 +245,14 @@ module _ (ok : ℕ → Bool) (one : T (ok 1)) (two : T (ok 2)) (three : T (ok 3)
 
     -- ---- a matrix, and what `readMatrix` answers where it isn't refused by 27
     module _ (seven : T (ok 7)) (h : Head) (s : List ℕ) where
-      module _ {A S : Type 0} (p : S → Reader ℕ Refusal A) (next : S → A → S) (each : (st : S) → Only told (p st)) where
-        to-end : (fuel : ℕ) (st : S) → Only told (toEnd s p next fuel st)
-        unfolding toEnd
-        to-end zero st = λ i. tt
-        to-end (suc fuel) st = λ at.
-            let more = only-then told (p st) _ (each st) (λ a. only-then told (toEnd s p next fuel (next st a)) _ (to-end fuel (next st a)) (λ xs i. tt)) at in
-            either ok (eqb at (length s)) _ _ tt more
-
-      abbrev matrixHead : Reader ℕ Refusal Stated
-      matrixHead = inRecord s 128 (λ kind. matrix-records.head h)
-
-      abbrev thingAt : ℕ → ℕ → Reader ℕ Refusal ThingRecord
-      thingAt highest last = inRecord s 272 (matrix-records.thing h highest last)
-
-      abbrev cellAt : List ThingRecord → CellRecord → Reader ℕ Refusal CellRecord
-      cellAt things last = inRecord s 32 (λ kind. cell h things last)
-
-      matrix-rest-only : (highest count : ℕ) → Only told (rest h highest count s)
-      unfolding rest
-      matrix-rest-only highest count =
-          only-then told (steps (thingAt highest) (λ last t. t .id) count 0) _
-          (only-steps told (thingAt highest) (λ last t. t .id) (matrix-thing-only ok one two three six h s 272 five seven highest) count 0) (λ things.
-          only-then told (toEnd s (cellAt things) (λ last c. c) (length s) start) _
-          (to-end (cellAt things) (λ last c. c) (matrix-cell-only ok one two three six h s 32 five seven things) (length s) start) (λ cells i. tt))
-
-      matrix-fine : Only told (matrix h s)
+      pub matrix-fine : Only told (matrix h s)
       unfolding matrix
       matrix-fine =
-          only-then told matrixHead _ (matrix-head-only ok one two three six h s 128 four) (λ stated. matrix-rest-only (stated .highest) (stated .count))
+          only-then told (inRecord s 128 (λ kind. matrix-records.head h)) _ (matrix-head-only ok one two three six h s 128 four)
+          (λ stated. rest-fine ok one two three six five seven h s (stated .highest) (stated .count))
 
       pub matrix-only : (things : Things) (cells : List ℕ) → T (passed ok (asMatrix things cells (matrix h s 0) .0 .answer))
-      matrix-only things cells = by (matrix h s 0) (matrix-fine 0)
-        where
-          by : (r : Read ℕ Refusal Matrix) → T (fine told r) → T (passed ok (asMatrix things cells r .0 .answer))
-          by (got m next) t = tt
-          by (fault f) t = t
+      matrix-only things cells = matrix-passed ok things cells (matrix h s 0) (matrix-fine 0)
 
 -- ---- a request, and a list of requests
 abbrev pub passedRequest : (ℕ → Bool) → RequestReading → Bool

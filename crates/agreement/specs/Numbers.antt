@@ -1,4 +1,4 @@
--- Which numbers each function can give that reads or writes a record or more, carries out requests, marks, counts or converts: no others than those listed
+-- Which numbers each function can give that reads or writes a record or more, carries out requests, marks, counts, converts or moves: no others than those listed
 -- with it, and each of these is in the outline's table of refusal numbers.
 -- Assumes nothing.
 use Prim.Native.Nat.{ℕ}
@@ -13,7 +13,7 @@ use Rattle.model.specs.declared.Head.{Head}
 use Rattle.model.specs.declared.Scheme.{Scheme}
 use Rattle.model.specs.declared.Things.{Things}
 use Rattle.records.specs.Front.{recordAt}
-use Rattle.records.specs.Writing.{writeRecord}
+use Rattle.records.specs.Writing.{writeBytes, writeRecord}
 use Rattle.records.specs.Told.{ofRecord, ofReading, ofWriting}
 use Rattle.command_bytes.specs.Answers.{readHead, readCommand, ofHeadAt}
 use Rattle.scheme_bytes.specs.Answers.{readScheme}
@@ -22,7 +22,7 @@ use Rattle.matrix_records.specs.Content.{CellRecord}
 use Rattle.matrix_records.specs.Answers as matrix-records
 use Rattle.matrix_records.specs.Answers.{anyRecordAt, readThing, readCell}
 use Rattle.matrix_records.specs.Told.{ofHead, ofThing, ofCell}
-use Rattle.matrix_bytes.specs.Answers.{readMatrix, readMatrixByHead}
+use Rattle.matrix_bytes.specs.Answers.{readMatrix, readMatrixByHead, readRest}
 use Rattle.matrix_bytes.specs.Write.{writeMatrix, writeMatrixByHead}
 use Rattle.request_bytes.specs.Read.{readRequest}
 use Rattle.request_bytes.specs.Write.{writeRequest}
@@ -31,14 +31,15 @@ use Rattle.request_list.specs.List.{readList}
 use Rattle.engine.specs.Step.{requestOn}
 use Rattle.engine.specs.List.{runOn, runQuietly, ofRun}
 use Rattle.hold.specs.Marking.{markThing, asMarked, markedBy, ofMarking}
+use Rattle.moving.specs.Answers.{forwardInto, backInto, ofMoved}
 use Rattle.totals.specs.Totals.{totalsOf, ofTotals}
 use Rattle.convert.specs.Convert.{convertedScheme, convertedCells, convertSchemeInto, convertMatrixInto, ofConversion}
-use Rattle.robot.specs.Library.{checkScheme, checkMatrix, runBytes, convertSchemeBytes, convertMatrixBytes, markBytes, requestBytes}
+use Rattle.robot.specs.Library.{checkScheme, checkMatrix, runBytes, convertSchemeBytes, convertMatrixBytes, markBytes, forwardBytes, backBytes, requestBytes}
 use Rattle.agreement.specs.LibraryAgrees.{Bytes}
 
--- the outline's table, and 18 for a thing on hold; 0 is success
+-- the outline's table, 18 for a thing on hold, and 23 for a highest that a move would lose; 0 is success
 unfoldable pub table : List ℕ
-table = 1 ∷ 2 ∷ 3 ∷ 4 ∷ 5 ∷ 6 ∷ 7 ∷ 8 ∷ 9 ∷ 10 ∷ 11 ∷ 12 ∷ 13 ∷ 14 ∷ 15 ∷ 16 ∷ 17 ∷ 18 ∷ 20 ∷ 21 ∷ 22 ∷ 27 ∷ []
+table = 1 ∷ 2 ∷ 3 ∷ 4 ∷ 5 ∷ 6 ∷ 7 ∷ 8 ∷ 9 ∷ 10 ∷ 11 ∷ 12 ∷ 13 ∷ 14 ∷ 15 ∷ 16 ∷ 17 ∷ 18 ∷ 20 ∷ 21 ∷ 22 ∷ 23 ∷ 27 ∷ []
 
 -- those of a reading: of a record, a request, a scheme's head, a scheme, a matrix
 unfoldable pub ofARecord : List ℕ
@@ -83,7 +84,7 @@ Gives ks k = T (oneOf ks k)
 
 pub record Numbers : Type 0 where
   -- ---- all that is listed is in the table
-  pub inTable : T (all (oneOf table) (ofARecord ++ ofARequest ++ ofAHead ++ ofACommand ++ ofAScheme ++ ofAPart ++ ofAMatrix ++ ofBoth ++ ofAStep ++ ofConverting ++ 9 ∷ 27 ∷ []))
+  pub inTable : T (all (oneOf table) (ofARecord ++ ofARequest ++ ofAHead ++ ofACommand ++ ofAScheme ++ ofAPart ++ ofAMatrix ++ ofBoth ++ ofAStep ++ ofConverting ++ 9 ∷ 23 ∷ 27 ∷ []))
   -- ---- readings
   pub aRecord : (bytes : List ℕ) (at kinds : ℕ) → Gives ofARecord (ofRecord (recordAt bytes at kinds) .number)
   pub aHead : (bytes : List ℕ) (at : ℕ) → Gives ofAHead (ofHeadAt (readHead bytes at) .number)
@@ -98,9 +99,12 @@ pub record Numbers : Type 0 where
       Gives (27 ∷ ofAMatrix) (ofReading (readMatrix bytes s things cells .0 .answer) .number)
   pub aMatrixByHead : (bytes : List ℕ) (h : Head) (things : Things) (cells : List ℕ) →
       Gives (27 ∷ ofAMatrix) (ofReading (readMatrixByHead bytes h things cells .0 .answer) .number)
+  pub aRest : (bytes : List ℕ) (at : ℕ) (h : Head) (highest count : ℕ) (things : Things) (cells : List ℕ) →
+      Gives (27 ∷ ofAPart) (ofReading (readRest bytes at h highest count things cells .0 .answer) .number)
   pub aRequest : (bytes : List ℕ) (at : ℕ) → Gives ofARequest (ofRequestReading (readRequest bytes at .answer) .number)
   pub aList : (bytes : List ℕ) → Gives ofARequest (ofReading (readList bytes .ending) .number)
   -- ---- writings
+  pub bytesInto : (out : List ℕ) (at : ℕ) (bytes : List ℕ) → Gives (9 ∷ []) (ofWriting (writeBytes out at bytes .0) .number)
   pub recordInto : (out : List ℕ) (at kind : ℕ) (body : List ℕ) → Gives (4 ∷ 9 ∷ []) (ofWriting (writeRecord out at kind body .0) .number)
   pub schemeInto : (out : List ℕ) (s : Scheme) → Gives (9 ∷ 27 ∷ []) (ofWriting (writeScheme out s .0) .number)
   pub matrixInto : (out : List ℕ) (s : Scheme) (m : Matrix) → Gives (9 ∷ 27 ∷ []) (ofWriting (writeMatrix out s m .0) .number)
@@ -120,6 +124,9 @@ pub record Numbers : Type 0 where
   pub cells : (s : Scheme) (m : Matrix) → Gives (27 ∷ ofConverting) (ofConversion (convertedCells s m .0) .number)
   pub convertedInto : (out : List ℕ) (s : Scheme) → Gives (9 ∷ 27 ∷ ofConverting) (ofWriting (convertSchemeInto out s .0) .number)
   pub matrixConvertedInto : (out : List ℕ) (s : Scheme) (m : Matrix) → Gives (9 ∷ 27 ∷ ofConverting) (ofWriting (convertMatrixInto out s m .0) .number)
+  -- ---- moving: 23 on the way back only
+  pub movedForward : (old : List ℕ) (s : Scheme) (out : List ℕ) → Gives (9 ∷ 27 ∷ ofAMatrix) (ofMoved (forwardInto old s out .0) .number)
+  pub movedBack : (new : List ℕ) (s : Scheme) (out : List ℕ) → Gives (9 ∷ 23 ∷ 27 ∷ ofAMatrix) (ofMoved (backInto new s out .0) .number)
   -- ---- the robots' library, which never gives 27: all that it is handed are bytes, and it reads them
   pub checksScheme : (scheme : List ℕ) → Gives ofAScheme (checkScheme scheme .number)
   pub checksMatrix : (scheme matrix : List ℕ) → Bytes scheme → Gives ofBoth (checkMatrix scheme matrix .number)
@@ -130,4 +137,6 @@ pub record Numbers : Type 0 where
       Gives (9 ∷ ofBoth ++ ofConverting) (convertMatrixBytes scheme matrix out .called .number)
   pub marks : (mark : Bool) (scheme matrix : List ℕ) (id : ℕ) (out : List ℕ) → Bytes scheme → Bytes matrix →
       Gives (9 ∷ 12 ∷ ofBoth) (markBytes mark scheme matrix id out .called .number)
+  pub movesForward : (scheme old out : List ℕ) → Bytes scheme → Gives (9 ∷ ofBoth) (forwardBytes scheme old out .called .number)
+  pub movesBack : (scheme matrix out : List ℕ) → Bytes scheme → Gives (9 ∷ 23 ∷ ofBoth) (backBytes scheme matrix out .called .number)
   pub writesRequest : (out : List ℕ) (at command : ℕ) (ids : List ℕ) → Gives (4 ∷ 9 ∷ []) (requestBytes out at command ids .called .number)

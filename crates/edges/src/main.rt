@@ -4,6 +4,7 @@ mod case;
 mod checks;
 mod fields;
 mod matrices;
+mod moves;
 mod outputs;
 mod parts;
 mod pattern;
@@ -40,6 +41,7 @@ fn run(case: &[u8], s: Scheme, th: Things, cells: &mut [u64], out: &mut [u8]) ->
     match case::one_at(case, 0) / 10 {
         1 => matrices::task(case, s, th, cells),
         2 => requests::task(case, s, th, cells, out),
+        10 => moves::task(case, s, th, cells, out),
         _ => {
             ask(case, s, th, cells, out);
             th

@@ -8,7 +8,7 @@ use model::Scheme;
 use model::Things;
 use rights::ThingType;
 
-fn told(read: MatrixAnswer) -> Things {
+pub(crate) fn told(read: MatrixAnswer) -> Things {
     let answer = read.answer;
     print::reading(answer);
     read.things

@@ -1,4 +1,4 @@
-// The tasks 40 to 53: a request, a record, a number of some bytes or text stored at a position of a lent buffer.
+// The tasks 40 to 53: a request, a record, bytes, a number of some bytes or text stored at a position of a lent buffer.
 use crate::case;
 use crate::print;
 use crate::texts;
@@ -39,6 +39,7 @@ fn store(task: u8, b: &[u8], at: usize, out: &mut [u8]) -> Writing {
         41 => write_record(b, at, out),
         42 => write_zeros(b, at, out),
         43..=46 => put(task, b, at, out),
+        47 => records::write_bytes(out, at, b),
         _ => Writing::Done {
             next: texts::put(task, b, at, out),
         },

@@ -31,7 +31,8 @@ use Rattle.matrix_bytes.specs.Content.{thingsOf, cellsOf}
 use Rattle.matrix_bytes.specs.Write.{matrixBytes}
 use Rattle.matrix_bytes.specs.Promises.{Tidy, AcceptedIffRead}
 use Rattle.matrix_bytes.proofs.Rising.{Rising, things-rising, things-few}
-use Rattle.matrix_bytes.proofs.RoundTrips.{things, cells, sized, same-content, there, back}
+use Rattle.matrix_bytes.proofs.RestTrips.{things, cells}
+use Rattle.matrix_bytes.proofs.RoundTrips.{sized, same-content, there, back}
 use Rattle.model.specs.Scheme.{noType}
 
 -- ---- the bytes of a matrix's parts

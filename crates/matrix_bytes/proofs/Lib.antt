@@ -5,6 +5,7 @@ pub mod Spots
 pub mod Cells
 pub mod Stored
 pub mod Trips
+pub mod RestTrips
 pub mod RoundTrips
 pub mod AcceptedTrip
 pub mod FunctionTrips

@@ -5,15 +5,15 @@ use native.Mathlib.Omega.{arith}
 use mathlib.Core.Bool.{Bool, true, false, cond, _&&_}
 use mathlib.Core.List.{List, [], _∷_}
 use mathlib.Core.Path.{_≡_, refl, _∙_}
-use lib.Dec.{T, eqb}
+use lib.Dec.{T, eqb, leb, eqb→eq, leb→le}
 use lib.ListN.{length, take, replicate}
-use borrow.Author.Tests.{eq-eqb, ne-eqb}
+use borrow.Author.Tests.{eq-eqb, ne-eqb, le-leb}
 use Rattle.model.specs.Seats.{find, seat, place}
 use Rattle.model.specs.Accepted.{acceptedHead, acceptedScheme}
 use Rattle.model.specs.declared.Head.{Head}
 use Rattle.model.specs.declared.Scheme.{Scheme}
 use Rattle.model.specs.declared.Things.{Things}
-use Rattle.laws.proofs.Bools.{is-true}
+use Rattle.laws.proofs.Bools.{is-true, is-false, and-left, and-right}
 use Rattle.records.specs.Reading.{Read, got, fault, bind, done}
 use Rattle.records.specs.Front.{Refusal, inRecord}
 use Rattle.records.proofs.Trip.{Bytes}
@@ -25,7 +25,7 @@ use Rattle.matrix_records.proofs.Trips.{CellOk, row-thing, head-sized}
 use Rattle.matrix_records.proofs.ReadBack.{refusal}
 use Rattle.matrix_bytes.specs.Content.{thingsFrom, store, storeAll, matrixFrom}
 use Rattle.matrix_bytes.specs.Read.{toEnd, rest, matrix}
-use Rattle.matrix_bytes.specs.Answers.{asMatrix, readMatrix, readMatrixByHead}
+use Rattle.matrix_bytes.specs.Answers.{asMatrix, readMatrix, readMatrixByHead, readRest}
 use Rattle.matrix_bytes.specs.Inner.Parts.{refusedAt, cellsFrom, storedIn, finished}
 use Rattle.matrix_bytes.specs.declared.answers.MatrixAnswer.{MatrixAnswer}
 use Rattle.matrix_bytes.proofs.Seating.{from-room, from-listed}
@@ -100,6 +100,24 @@ module _ (s : List ℕ) (h : Head) (things : Things) (cells : List ℕ) (highest
         let same = same-answer (cellsOn ts) (λ cs j c. stored-all h its count (from-room highest ts .ids)
         (rw all (cells-back h z s ts g next j cs on c .2)) (replicate 2304 0)) in
         ex ∙ rw (et, all, f) same
+
+-- ---- the same from any position on
+module _ (s : List ℕ) (at : ℕ) (h : Head) (highest count : ℕ) (things : Things) (cells : List ℕ) where
+  -- what must hold of a head that was read, and of the cells
+  abbrev Fits : Type 0
+  Fits = T (acceptedHead h) × (count ≤ 48) × (at ≤ length s) × (length cells ≡ 2304)
+
+  abbrev fits : Bool
+  fits = acceptedHead h && leb count 48 && leb at (length s) && eqb (length cells) 2304
+
+  pub rest-refused : (Fits → ⊥) → (m : MatrixAnswer) → m ≡ refusedAt things 27 0 →
+      _≡_ {A = MatrixAnswer × List ℕ} (m, cells) (readRest s at h highest count things cells)
+  unfolding readRest
+  rest-refused n m em = rw (em, is-false fits (λ t. n (search (and-left, and-right, leb→le, eqb→eq))))
+
+  pub rest-opened : Fits → readRest s at h highest count things cells ≡ asMatrix things cells (rest h highest count s at)
+  unfolding readRest
+  rest-opened (ok, few, near, room) = rw (is-true (acceptedHead h) ok, le-leb count 48 few, le-leb at (length s) near, eq-eqb (length cells) 2304 room)
 
 -- ---- a matrix
 module _ (s : List ℕ) (h : Head) (things : Things) (cells : List ℕ) where

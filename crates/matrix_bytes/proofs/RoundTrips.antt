@@ -1,9 +1,9 @@
 -- Both round trips of a matrix: from its content to bytes and back, and from bytes to a content and back.
 -- Assumes nothing.
 use Prim.Native.Nat.{ℕ, _≤_, _<_}
-use mathlib.Core.Path.{_≡_, refl, sym, _∙_}
+use mathlib.Core.Path.{_≡_, refl, sym, subst, _∙_}
 use mathlib.Core.Bool.{Bool, true, false, cond, _&&_}
-use mathlib.Core.List.{List, _++_, append-nil}
+use mathlib.Core.List.{List, _++_, append-nil, append-assoc}
 use native.Mathlib.Omega.{arith}
 use lib.Dec.{T, leb}
 use lib.ListN.{length}
@@ -19,23 +19,24 @@ use Rattle.model.proofs.Held.{Held}
 use Rattle.model.proofs.HeldLaws.{ids-small, held, accepted}
 use Rattle.model.proofs.Find.{seat-is}
 use Rattle.model.proofs.SeatChange.{things-eq, state-eq}
-use Rattle.records.specs.Bytes.{recordBytes, eachBytes}
-use Rattle.records.specs.Reading.{got, steps}
+use Rattle.records.specs.Bytes.{recordBytes}
+use Rattle.records.specs.Reading.{got}
 use Rattle.records.specs.Front.{inRecord}
-use Rattle.records.proofs.Trip.{Bytes, Stand, bind-got, got-same, stand-split, stand-join}
+use Rattle.records.proofs.Trip.{Bytes, Stand, bind-got, stand-split, stand-join}
 use Rattle.matrix_records.specs.Content.{Stated, ThingRecord, CellRecord}
-use Rattle.matrix_records.specs.Read.{head, thing, cell, start}
-use Rattle.matrix_records.specs.Write.{headBytes, thingBytes, thingKind, cellBytes}
+use Rattle.matrix_records.specs.Read.{head}
+use Rattle.matrix_records.specs.Write.{headBytes}
 use Rattle.matrix_records.proofs.Trips.{Sized, head-sized, head-record}
 use Rattle.matrix_bytes.specs.Content.{thingsOf, cellsOf, matrixFrom, reseated}
-use Rattle.matrix_bytes.specs.Read.{toEnd, rest, matrix}
+use Rattle.matrix_bytes.specs.Read.{rest, matrix}
 use Rattle.matrix_bytes.specs.Write.{matrixBytes}
 use Rattle.matrix_bytes.specs.Promises.{RoundTrips}
 use Rattle.matrix_bytes.proofs.Seating.{from-highest}
 use Rattle.matrix_bytes.proofs.Rising.{ThingsOk, from-thing, things-ok, things-with, things-again}
 use Rattle.matrix_bytes.proofs.Cells.{cells-between, cells-each, cells-at}
 use Rattle.matrix_bytes.proofs.Stored.{from-accepted, from-rights, cells-again}
-use Rattle.matrix_bytes.proofs.Trips.{stand-le, things-trip, cells-there, cells-back}
+use Rattle.matrix_bytes.proofs.Trips.{stand-le}
+use Rattle.matrix_bytes.proofs.RestTrips.{ContentOk, things, cells, content, rest-there, rest-back}
 
 pub head-passes : (s : Scheme) → T (acceptedScheme s) → T (passes (headFault (s .head)))
 unfolding acceptedScheme
@@ -83,62 +84,59 @@ same-content h m ok =
         let l : 65535 < y = leb-false y 65535 e in
         too-high h M again x y l ∙ sym (too-high h m ok x y l)
 
--- the bytes of each
-abbrev pub things : List ThingRecord → List ℕ
-things = eachBytes (λ t. recordBytes (thingKind t) (thingBytes t))
-
-abbrev pub cells : List CellRecord → List ℕ
-cells = eachBytes (λ c. recordBytes 5 (cellBytes c))
-
 -- a whole input stands in itself
-stand-all : (s : List ℕ) → Stand s s 0 (length s)
+pub stand-all : (s : List ℕ) → Stand s s 0 (length s)
 stand-all s = record { next = omega arith; bytes = sym (rw (drop-length s) (append-nil s)) }
+
+-- and nothing else stands in it from the first byte to the last
+pub stand-whole : (s v : List ℕ) (k : ℕ) → Stand s v 0 k → k ≡ length s → s ≡ v
+stand-whole s v k r e = rw (e, drop-length, append-nil) at (r .bytes)
+
+-- a head, and what may stand behind it: these are the bytes of the matrix that they make
+pub content-bytes : (h : Head) (st : Stated) (ts : List ThingRecord) (cs : List CellRecord) → ContentOk h (st .highest) ts cs → length ts ≡ st .count →
+    recordBytes 7 (headBytes (h .rights) st) ++ content ts cs ≡ matrixBytes h (matrixFrom (st .highest) ts cs)
+unfolding matrixBytes matrixFrom
+content-bytes h st ts cs ok n =
+    let same-things = things-again h (st .highest) ts (ok .listed) cs in
+    let same-cells = cells-again h (st .highest) ts (ok .listed) cs (ok .each) (ok .between) in
+    let same-highest = from-highest (st .highest) ts (ok .listed .below) in
+    rw (same-things, same-cells, same-highest, n) (sym (append-assoc (recordBytes 7 (headBytes (h .rights) st)) (things ts) (cells cs)))
 
 module _ (h : Head) (z : Sized h) where
   -- ---- written, then read
   pub there : (m : Matrix) → Held h m → matrix h (matrixBytes h m) 0 ≡ got (reseated h m) (length (matrixBytes h m))
-  unfolding matrix rest matrixBytes
+  unfolding matrix matrixBytes
   there m ok =
       let s : List ℕ = matrixBytes h m in
-      let listed = things-ok h m ok in
       let stated : Stated = record { count = length (thingsOf m); highest = m .things .highest } in
       let first : List ℕ = recordBytes 7 (headBytes (h .rights) stated) in
-      let (j, p, c) = stand-split s (first ++ things (thingsOf m)) (cells (cellsOf h m)) {i = 0} {k = length s} (stand-all s) in
-      let (i, a, b) = stand-split s first (things (thingsOf m)) p in
-      let head-is = head-record h z s .there stated (record { few = listed .few; reach = listed .reach }) 0 i a in
-      let things-are = things-trip h z s (m .things .highest) (length (thingsOf m)) .there (thingsOf m) (listed .rise, listed .below, refl) i j b in
-      let cells-are = cells-there h z s (thingsOf m) (cells-between h m ok) (cells-each h m ok) j c in
-      rw (head-is, things-are, cells-are)
+      let fine : ContentOk h (m .things .highest) (thingsOf m) (cellsOf h m) =
+      record { listed = things-ok h m ok; between = cells-between h m ok; each = cells-each h m ok } in
+      let whole : Stand s (first ++ content (thingsOf m) (cellsOf h m)) 0 (length s) =
+      subst (λ (v : List ℕ). Stand s v 0 (length s)) (append-assoc first (things (thingsOf m)) (cells (cellsOf h m))) (stand-all s) in
+      let (i, a, b) = stand-split s first (content (thingsOf m) (cellsOf h m)) whole in
+      let head-is = head-record h z s .there stated (record { few = fine .listed .few; reach = fine .listed .reach }) 0 i a in
+      rw (head-is, rest-there h z s (m .things .highest) (thingsOf m) (cellsOf h m) fine i b)
 
   -- ---- read, then written
   abbrev pub Written : List ℕ → Matrix → ℕ → Type 0
   Written s m next = Held h m × (s ≡ matrixBytes h m) × (next ≡ length s)
 
-  written : (s : List ℕ) → Bytes s → (st : Stated) (i j k : ℕ) (ts : List ThingRecord) (cs : List CellRecord) → inRecord s 128 (λ kind. head h) 0 ≡ got st i →
-      steps (λ last. inRecord s 272 (thing h (st .highest) last)) (λ last t. t .id) (st .count) 0 i ≡ got ts j →
-      toEnd s (λ last. inRecord s 32 (λ kind. cell h ts last)) (λ last c. c) (length s) start j ≡ got cs k → Written s (matrixFrom (st .highest) ts cs) k
-  unfolding matrixBytes matrixFrom
-  written s g st i j k ts cs e1 e2 e3 =
-      let (a, fine) = head-record h z s .back 0 i st g e1 in
-      let (b, (rise, below, count)) = things-trip h z s (st .highest) (st .count) .back i j ts g e2 in
-      let (c, between, each, end) = cells-back h z s ts g j k cs (stand-le b (stand-le a (omega arith))) e3 in
-      let listed : ThingsOk h (st .highest) ts = record { reach = fine .reach; rise = rise; below = below; few = omega (arith, fine .few) } in
+  written : (s : List ℕ) → Bytes s → (st : Stated) (i k : ℕ) (m : Matrix) → inRecord s 128 (λ kind. head h) 0 ≡ got st i →
+      rest h (st .highest) (st .count) s i ≡ got m k → Written s m k
+  written s g st i k m e f =
+      let (a, ok) = head-record h z s .back 0 i st g e in
       let first : List ℕ = recordBytes 7 (headBytes (h .rights) st) in
-      let all : Stand s (first ++ things ts ++ cells cs) 0 k =
-      stand-join s (first ++ things ts) (cells cs) (stand-join s first (things ts) a b) c in
-      let same = rw (end, drop-length, append-nil) at (all .bytes) in
-      let same-things = things-again h (st .highest) ts listed cs in
-      let same-cells = cells-again h (st .highest) ts listed cs each between in
-      let same-highest = from-highest (st .highest) ts below in
-      (from-accepted h (st .highest) ts listed cs each, same ∙ rw (same-things, same-cells, same-highest, count), end)
+      let w = rest-back h z s (st .highest) (st .count) i (ok .reach) (ok .few) (stand-le a (omega arith)) g m k f in
+      let all : Stand s (first ++ content (w .its) (w .filled)) 0 k = stand-join s first (content (w .its) (w .filled)) a (w .stands) in
+      let same = stand-whole s _ k all (w .end) ∙ content-bytes h st (w .its) (w .filled) (w .fine) (w .many) in
+      rw (w .is) (from-accepted h (st .highest) (w .its) (w .fine .listed) (w .filled) (w .fine .each), same, w .end)
 
   pub back : (s : List ℕ) (m : Matrix) (next : ℕ) → Bytes s → matrix h s 0 ≡ got m next → Written s m next
-  unfolding matrix rest
+  unfolding matrix
   back s m next g e =
       let (st, i, e1, f1) = bind-got (inRecord s 128 (λ kind. head h) 0) _ e in
-      let (ts, j, e2, f2) = bind-got (steps (λ last. inRecord s 272 (thing h (st .highest) last)) (λ last t. t .id) (st .count) 0 i) _ f1 in
-      let (cs, k, e3, f3) = bind-got (toEnd s (λ last. inRecord s 32 (λ kind. cell h ts last)) (λ last c. c) (length s) start j) _ f2 in
-      got-same (Written s) f3 (written s g st i j k ts cs e1 e2 e3)
+      written s g st i next m e1 f1
 
 pub round-trips : RoundTrips
 round-trips = record {

@@ -6,3 +6,4 @@ mod read;
 pub use answers::MatrixAnswer;
 pub use read::read_matrix;
 pub use read::read_matrix_by_head;
+pub use read::read_rest;

@@ -20,7 +20,7 @@ ghost use Rattle.records.specs.Reading.{steps};
 ghost use Rattle.records.specs.Front.{inRecord};
 ghost use Rattle.matrix_records.specs.Read.{thing};
 ghost use Rattle.matrix_bytes.specs.Read.{rest};
-ghost use Rattle.matrix_bytes.specs.Answers.{asMatrix, readMatrix, readMatrixByHead};
+ghost use Rattle.matrix_bytes.specs.Answers.{asMatrix, readRest, readMatrix, readMatrixByHead};
 ghost use Rattle.matrix_bytes.specs.Inner.Parts.{refusedAt, asThings, cellsFrom, CellsRead, finished};
 
 fn refused(number: u8, at: usize, things: Things) -> MatrixAnswer
@@ -117,7 +117,7 @@ fn finish(
 }
 
 // What stands behind a head that states so many things and this highest id: the things, and the cells behind them, into the lent ones.
-fn read_rest(
+fn rest_of(
     s: &[u8],
     at: usize,
     h: Head,
@@ -136,6 +136,33 @@ fn read_rest(
         return refused(answer.number(), answer.at(), things);
     };
     finish(s, next, h, th, count as usize, things, cells)
+}
+
+// The same from any position on, for callers that read a head of their own: 27 for what no reading of a head gives.
+pub fn read_rest(
+    s: &[u8],
+    at: usize,
+    h: Head,
+    highest: u16,
+    count: u8,
+    things: Things,
+    cells: &mut [u64],
+) -> MatrixAnswer
+    ensures { λ r. ⌜ _≡_ {A = MatrixAnswer × List ℕ} (r, now (cells .exit)) (readRest (now (s .entry)) at h highest count things (now (cells .entry))) ⌝ }
+{
+    if cells.len() != Things::CELLS {
+        return refused(27, 0, things);
+    }
+    if s.len() < at {
+        return refused(27, 0, things);
+    }
+    if Things::LIMIT < count as usize {
+        return refused(27, 0, things);
+    }
+    if !head_accepted(h) {
+        return refused(27, 0, things);
+    }
+    rest_of(s, at, h, highest, count, things, cells)
 }
 
 // The whole of an input as a matrix of a scheme; where it is refused, the things come back as they were handed in, and the cells stay.
@@ -169,5 +196,5 @@ pub fn read_matrix_by_head(s: &[u8], h: Head, things: Things, cells: &mut [u64])
     else {
         return refused(head.number(), head.at(), things);
     };
-    read_rest(s, next, h, highest, count, things, cells)
+    rest_of(s, next, h, highest, count, things, cells)
 }

@@ -7,7 +7,7 @@ ghost use lib.Seq.{sets};
 ghost use Rattle.records.specs.Bytes.{littleEndian, recordBytes, number2, part};
 ghost use Rattle.records.specs.Reading.{byte, number, field, asField, asField2, asField8};
 ghost use Rattle.records.specs.Front.{allowed, recordAt, passedUp, nextAt};
-ghost use Rattle.records.specs.Writing.{writeRecord};
+ghost use Rattle.records.specs.Writing.{writeBytes, writeRecord};
 ghost use Rattle.records.specs.Told.{ofField, ofField2, ofField8, ofRecord, ofReading, ofWriting, recordPlace, readingPlace};
 
 // The kinds that may stand at a place: bit k for kind k.
@@ -376,6 +376,21 @@ fn put_record(part: &mut [u8], kind: u16, body: &[u8])
 {
     put_front(part, kind, body.len() as u16);
     put_bytes(part, 4, body);
+}
+
+// Bytes as they are, in the output's part from a position on: 9 where there is no room.
+pub fn write_bytes(out: &mut [u8], at: usize, bytes: &[u8]) -> Writing
+    ensures { λ r. ⌜ _≡_ {A = Writing × List ℕ} (r, now (out .exit)) (writeBytes (now (out .entry)) at (now (bytes .entry))) ⌝ }
+{
+    let n = bytes.len();
+    if out.len() < at {
+        return Writing::Refused { number: 9 };
+    }
+    if out.len() - at < n {
+        return Writing::Refused { number: 9 };
+    }
+    put_bytes(&mut out[at..], 0, bytes);
+    Writing::Done { next: at + n }
 }
 
 // One record, in the output's part from a position on: 4 where the body has no length field, 9 where there is no room.

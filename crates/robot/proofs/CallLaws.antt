@@ -28,7 +28,8 @@ use Rattle.hold.specs.Marking.{asMarked}
 use Rattle.hold.specs.declared.Marked.{Marked}
 use Rattle.hold.specs.declared.Marking.the-variants as marking
 use Rattle.hold.proofs.MarkLaws.{marked-refused, marked-done}
-use Rattle.robot.specs.Library.{call, gives, givesWrote, givesRan, writingBy, wrote, afterScheme, withScheme, afterMatrix, withMatrix, notWritten, markedInto, notRun}
+use Rattle.moving.specs.declared.answers.Moved.{Moved}
+use Rattle.robot.specs.Library.{call, gives, givesWrote, givesRan, writingBy, wrote, movingBy, moved, afterScheme, withScheme, afterMatrix, withMatrix, notWritten, markedInto, notRun}
 use Rattle.model.specs.Arrays.{noScheme}
 use Rattle.matrix_bytes.proofs.ReadMatrix.{by-head}
 
@@ -92,6 +93,10 @@ module _ (report : List ℕ) (n : ℕ) (report′ : List ℕ) where
       _≡_ {A = ℕ × List ℕ} (n, report′) (gives report (writingBy other w)) →
       _≡_ {A = ℕ × List ℕ × List ℕ} (n, out′, report′) (givesWrote report (wrote other is))
   told-wrote other w out′ is f e = ap (λ (x : ℕ × List ℕ). (x .0, out′, x .1)) e ∙ ap (λ (x : Writing × List ℕ). givesWrote report (wrote other x)) f
+
+  pub told-moved : (a : Moved) (out′ : List ℕ) (is : Moved × List ℕ) → _≡_ {A = Moved × List ℕ} (a, out′) is →
+      _≡_ {A = ℕ × List ℕ} (n, report′) (gives report (movingBy a)) → _≡_ {A = ℕ × List ℕ × List ℕ} (n, out′, report′) (givesWrote report (moved is))
+  told-moved a out′ is f e = ap (λ (x : ℕ × List ℕ). (x .0, out′, x .1)) e ∙ ap (λ (x : Moved × List ℕ). givesWrote report (moved x)) f
 
   -- a mark, and the matrix with it
   module _ (s : Scheme) (cells : List ℕ) (th : Things) (o : Outcome Things) (r : Marked) (is : r ≡ asMarked th o) where

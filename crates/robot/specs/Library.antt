@@ -26,6 +26,9 @@ use Rattle.request_list.specs.List.{Listed, readList}
 use Rattle.engine.specs.List.{repliesTo}
 use Rattle.hold.specs.Marking.{markThing}
 use Rattle.convert.specs.Convert.{convertSchemeInto, convertMatrixInto}
+use Rattle.moving.specs.Answers.{forwardInto, backInto}
+use Rattle.moving.specs.declared.answers.Moved.{Moved}
+use Rattle.moving.specs.declared.answers.Moved.the-variants as moving
 use Rattle.model.specs.Arrays.{noScheme}
 
 -- ---- what every function gives
@@ -175,10 +178,24 @@ holdBytes = markBytes true
 abbrev pub releaseBytes : List ℕ → List ℕ → ℕ → List ℕ → Wrote
 releaseBytes = markBytes false
 
+-- ---- moving a stored matrix: a reading's own numbers and 23 lie in the image that was handed in, 9 in the output
+abbrev pub movingBy : Moved → Called
+movingBy (moving.Done next) = call 0 0 0 0 next
+movingBy (moving.Refused k at) = call k (cond (eqb k 9) 5 2) at 0 0
+
+abbrev pub moved : Moved × List ℕ → Wrote
+moved m = record { called = movingBy (m .0); out = m .1 }
+
+unfoldable pub forwardBytes : List ℕ → List ℕ → List ℕ → Wrote
+forwardBytes scheme old out = withScheme (notWritten out) scheme (λ s n. moved (forwardInto old s out))
+
+unfoldable pub backBytes : List ℕ → List ℕ → List ℕ → Wrote
+backBytes scheme new out = withScheme (notWritten out) scheme (λ s n. moved (backInto new s out))
+
 -- ---- writing a request behind others: 4 above 8 ids, then 9; what is written is the position behind it
 unfoldable pub requestBytes : List ℕ → ℕ → ℕ → List ℕ → Wrote
 requestBytes out at command ids = wrote 3 (writeRequest out at command ids)
 
 -- ---- the library's version: it moves when a format or a function's meaning moves
 abbrev pub version : ℕ
-version = 6
+version = 7

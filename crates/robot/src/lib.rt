@@ -2,6 +2,7 @@
 mod check;
 mod convert_bytes;
 mod mark_bytes;
+mod move_bytes;
 mod report;
 mod run;
 mod version;
@@ -12,6 +13,8 @@ pub use convert_bytes::slushferret_convert_matrix;
 pub use convert_bytes::slushferret_convert_scheme;
 pub use mark_bytes::slushferret_hold;
 pub use mark_bytes::slushferret_release;
+pub use move_bytes::slushferret_back;
+pub use move_bytes::slushferret_forward;
 pub use run::slushferret_run;
 pub use run::slushferret_write_request;
 pub use version::slushferret_version;

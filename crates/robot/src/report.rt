@@ -1,4 +1,5 @@
 // The five numbers that every function of the library puts into the lent report.
+use moving::Moved;
 use records::Writing;
 ghost use mathlib.Core.Bool.{cond};
 ghost use mathlib.Core.Path.{_≡_};
@@ -6,7 +7,7 @@ ghost use mathlib.Core.List.{List};
 ghost use Prim.Native.Nat.{ℕ};
 ghost use lib.Dec.{eqb};
 ghost use lib.ListN.{set};
-ghost use Rattle.robot.specs.Library.{call, cutShort, gives, writingBy};
+ghost use Rattle.robot.specs.Library.{call, cutShort, gives, movingBy, writingBy};
 
 fn put(report: &mut [usize], i: usize, v: usize)
     ensures { λ _. ⌜ now (report .exit) ≡ set (now (report .entry)) i v ⌝ }
@@ -67,5 +68,15 @@ pub(crate) fn tell_writing(report: &mut [usize], other: usize, answer: Writing) 
     match answer {
         Writing::Done { next } => tell(report, 0, 0, 0, 0, next),
         Writing::Refused { number } => tell(report, number, place_of(number, other), 0, 0, 0),
+    }
+}
+
+// What was moved: 9 lies in the output, any other number in the image that was handed in.
+pub(crate) fn tell_moving(report: &mut [usize], answer: Moved) -> u8
+    ensures { λ r. ⌜ _≡_ {A = ℕ × List ℕ} (r, now (report .exit)) (gives (now (report .entry)) (movingBy answer)) ⌝ }
+{
+    match answer {
+        Moved::Done { next } => tell(report, 0, 0, 0, 0, next),
+        Moved::Refused { number, at } => tell(report, number, place_of(number, 2), at, 0, 0),
     }
 }

@@ -6,5 +6,5 @@ ghost use Rattle.robot.specs.Library.{version};
 pub extern "C" fn slushferret_version() -> u32
     ensures { λ r. ⌜ r ≡ version ⌝ }
 {
-    6
+    7
 }

@@ -6,6 +6,7 @@ mod said;
 mod tool_check;
 mod tool_convert;
 mod tool_hold;
+mod tool_move;
 mod tool_run;
 mod tools;
 mod words;

@@ -5,6 +5,7 @@ use crate::said::tell_of;
 use crate::tool_check;
 use crate::tool_convert;
 use crate::tool_hold;
+use crate::tool_move;
 use crate::tool_run;
 use crate::words::ID;
 use crate::words::TOOL;
@@ -19,6 +20,8 @@ enum Errand {
     Convert,
     Hold,
     Release,
+    Forward,
+    Back,
     None,
 }
 
@@ -55,6 +58,12 @@ fn tool_named(name: &[u8]) -> Tool {
     if same(name, b"release") {
         return made(Errand::Release, 4, 4, 1);
     }
+    if same(name, b"forward") {
+        return made(Errand::Forward, 3, 3, 1);
+    }
+    if same(name, b"back") {
+        return made(Errand::Back, 3, 3, 1);
+    }
     made(Errand::None, 0, 0, 0)
 }
 
@@ -65,6 +74,8 @@ fn carry_out(errand: Errand) -> Status {
         Errand::Convert => tool_convert::convert(),
         Errand::Hold => tool_hold::hold(true),
         Errand::Release => tool_hold::hold(false),
+        Errand::Forward => tool_move::move_image(false),
+        Errand::Back => tool_move::move_image(true),
         Errand::None => Status::WrongUse,
     }
 }
@@ -85,6 +96,12 @@ fn tell_tools() {
     );
     tell(
         b"  release SCHEME MATRIX ID OUT                      releases the thing with this id and writes the matrix afterwards\n",
+    );
+    tell(
+        b"  forward SCHEME OLD NEW                            turns a matrix as it was stored before the highest id (kind 3) into one with it (kind 7)\n",
+    );
+    tell(
+        b"  back SCHEME NEW OLD                               turns it back, where the highest id is the highest listed one\n",
     );
 }
 

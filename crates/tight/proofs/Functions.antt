@@ -1,6 +1,6 @@
 -- That every public function of every library crate has a tight contract: of each, how its ending is read off what the equation `p` determines. The result
 -- comes first, then a place for each parameter: what was lent, or `tt`; `z` fills in behind the last that was lent. Assumes nothing.
-use Rattle.tight.specs.Functions.{Rights, Accepted, Things, Records, AcceptedMatrix, CommandBytes, SchemeBytes, SchemeWrite, MatrixRecords, MatrixBytes, MatrixWrite, RequestBytes, RequestList, Plan, Engine, Hold, Totals, Convert, Lines, Printout, Robot}
+use Rattle.tight.specs.Functions.{Rights, Accepted, Things, Records, AcceptedMatrix, CommandBytes, SchemeBytes, SchemeWrite, MatrixRecords, MatrixBytes, MatrixWrite, RequestBytes, RequestList, Plan, Engine, Hold, Moving, Totals, Convert, Lines, Printout, Robot}
 use Rattle.tight.proofs.General.{equation}
 
 pub rights : (M : Type 1) → Rights M
@@ -68,6 +68,7 @@ records M = record {
   put2 = equation (λ κs a z w p i. (tt, (p i, z .1 .1)));
   put8 = equation (λ κs a z w p i. (tt, (p i, z .1 .1)));
   put-front = equation (λ κs a z w p i. (tt, (p i, z .1 .1)));
+  write-bytes = equation (λ κs a z w p i. (p i .0, (p i .1, z .1 .1)));
   write-record = equation (λ κs a z w p i. (p i .0, (p i .1, z .1 .1)));
   Field-number = equation (λ κs a z w p i. (p i, z .1));
   Field2-number = equation (λ κs a z w p i. (p i, z .1));
@@ -123,6 +124,7 @@ pub matrix-bytes : (M : Type 1) → MatrixBytes M
 matrix-bytes M = record {
   read-matrix = equation (λ κs a z w p i. (p i .0, (tt, (tt, (tt, (p i .1, z .1 .1 .1 .1 .1))))));
   read-matrix-by-head = equation (λ κs a z w p i. (p i .0, (tt, (tt, (tt, (p i .1, z .1 .1 .1 .1 .1))))));
+  read-rest = equation (λ κs a z w p i. (p i .0, (tt, (tt, (tt, (tt, (tt, (tt, (p i .1, z .1 .1 .1 .1 .1 .1 .1 .1)))))))));
 }
 
 pub matrix-write : (M : Type 1) → MatrixWrite M
@@ -165,6 +167,12 @@ hold M = record {
   hold = equation (λ κs a z w p i. (p i, z .1));
 }
 
+pub moving : (M : Type 1) → Moving M
+moving M = record {
+  forward = equation (λ κs a z w p i. (p i .0, (tt, (tt, (p i .1, z .1 .1 .1 .1)))));
+  back = equation (λ κs a z w p i. (p i .0, (tt, (tt, (p i .1, z .1 .1 .1 .1)))));
+}
+
 pub totals : (M : Type 1) → Totals M
 totals M = record {
   totals = equation (λ κs a z w p i. (p i, z .1));
@@ -201,6 +209,8 @@ robot M = record {
   slushferret-convert-scheme = equation (λ κs a z w p i. (p i .0, (tt, (p i .1, (p i .2, z .1 .1 .1 .1)))));
   slushferret-hold = equation (λ κs a z w p i. (p i .0, (tt, (tt, (tt, (p i .1, (p i .2, z .1 .1 .1 .1 .1 .1)))))));
   slushferret-release = equation (λ κs a z w p i. (p i .0, (tt, (tt, (tt, (p i .1, (p i .2, z .1 .1 .1 .1 .1 .1)))))));
+  slushferret-forward = equation (λ κs a z w p i. (p i .0, (tt, (tt, (p i .1, (p i .2, z .1 .1 .1 .1 .1))))));
+  slushferret-back = equation (λ κs a z w p i. (p i .0, (tt, (tt, (p i .1, (p i .2, z .1 .1 .1 .1 .1))))));
   slushferret-run = equation (λ κs a z w p i. (p i .0, (tt, (tt, (tt, (p i .1, (p i .2, (p i .3, z .1 .1 .1 .1 .1 .1 .1))))))));
   slushferret-write-request = equation (λ κs a z w p i. (p i .0, (tt, (tt, (p i .1, (tt, (p i .2, z .1 .1 .1 .1 .1 .1)))))));
   slushferret-version = equation (λ κs a z w p i. (p i, z .1));

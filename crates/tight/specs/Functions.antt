@@ -18,6 +18,7 @@ use Rattle.request_list.proofs as request_list
 use Rattle.plan.proofs as plan
 use Rattle.engine.proofs as engine
 use Rattle.hold.proofs as hold
+use Rattle.moving.proofs as moving
 use Rattle.totals.proofs as totals
 use Rattle.convert.proofs as convert
 use Rattle.lines.proofs as lines
@@ -83,6 +84,7 @@ pub record Records (M : Type 1) : Type 2 where
   pub put2 : Tight M records.put2.ended records.put2.clauses
   pub put8 : Tight M records.put8.ended records.put8.clauses
   pub put-front : Tight M records.put_front.ended records.put_front.clauses
+  pub write-bytes : Tight M records.write_bytes.ended records.write_bytes.clauses
   pub write-record : Tight M records.«write_record».ended records.«write_record».clauses
   pub Field-number : Tight M records.Field.number.ended records.Field.number.clauses
   pub Field2-number : Tight M records.Field2.number.ended records.Field2.number.clauses
@@ -126,6 +128,7 @@ pub record MatrixRecords (M : Type 1) : Type 2 where
 pub record MatrixBytes (M : Type 1) : Type 2 where
   pub read-matrix : Tight M matrix_bytes.read_matrix.ended matrix_bytes.read_matrix.clauses
   pub read-matrix-by-head : Tight M matrix_bytes.read_matrix_by_head.ended matrix_bytes.read_matrix_by_head.clauses
+  pub read-rest : Tight M matrix_bytes.read_rest.ended matrix_bytes.read_rest.clauses
 
 pub record MatrixWrite (M : Type 1) : Type 2 where
   pub write-matrix : Tight M matrix_write.write_matrix.ended matrix_write.write_matrix.clauses
@@ -156,6 +159,10 @@ pub record Hold (M : Type 1) : Type 2 where
   -- the last one, since it hides the crate's name
   pub hold : Tight M hold.hold.ended hold.hold.clauses
 
+pub record Moving (M : Type 1) : Type 2 where
+  pub forward : Tight M moving.forward.ended moving.forward.clauses
+  pub back : Tight M moving.back.ended moving.back.clauses
+
 pub record Totals (M : Type 1) : Type 2 where
   pub totals : Tight M totals.totals.ended totals.totals.clauses
 
@@ -183,6 +190,8 @@ pub record Robot (M : Type 1) : Type 2 where
   pub slushferret-convert-scheme : Tight M robot.slushferret_convert_scheme.ended robot.slushferret_convert_scheme.clauses
   pub slushferret-hold : Tight M robot.slushferret_hold.ended robot.slushferret_hold.clauses
   pub slushferret-release : Tight M robot.slushferret_release.ended robot.slushferret_release.clauses
+  pub slushferret-forward : Tight M robot.slushferret_forward.ended robot.slushferret_forward.clauses
+  pub slushferret-back : Tight M robot.slushferret_back.ended robot.slushferret_back.clauses
   pub slushferret-run : Tight M robot.slushferret_run.ended robot.slushferret_run.clauses
   pub slushferret-write-request : Tight M robot.slushferret_write_request.ended robot.slushferret_write_request.clauses
   pub slushferret-version : Tight M robot.slushferret_version.ended robot.slushferret_version.clauses

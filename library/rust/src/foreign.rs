@@ -79,6 +79,28 @@ extern "C" {
         report_length: usize,
     ) -> u8;
 
+    fn slushferret_forward(
+        scheme: *const u8,
+        scheme_length: usize,
+        old: *const u8,
+        old_length: usize,
+        out: *mut u8,
+        out_length: usize,
+        report: *mut usize,
+        report_length: usize,
+    ) -> u8;
+
+    fn slushferret_back(
+        scheme: *const u8,
+        scheme_length: usize,
+        matrix: *const u8,
+        matrix_length: usize,
+        out: *mut u8,
+        out_length: usize,
+        report: *mut usize,
+        report_length: usize,
+    ) -> u8;
+
     fn slushferret_write_request(
         command: u8,
         ids: *const u16,
@@ -251,6 +273,35 @@ pub fn mark(
             matrix.as_ptr(),
             matrix.len(),
             id,
+            out.as_mut_ptr(),
+            out.len(),
+            report.as_mut_ptr(),
+            report.len(),
+        )
+    }
+}
+
+/// Moves forward or back: both are lent the same.
+pub fn move_image(
+    forward: bool,
+    scheme: &[u8],
+    image: &[u8],
+    out: &mut [u8],
+    report: &mut Report,
+) -> u8 {
+    let report = &mut report.numbers;
+    let call = if forward {
+        slushferret_forward
+    } else {
+        slushferret_back
+    };
+    // SAFETY: as in `convert_scheme`.
+    unsafe {
+        call(
+            scheme.as_ptr(),
+            scheme.len(),
+            image.as_ptr(),
+            image.len(),
             out.as_mut_ptr(),
             out.len(),
             report.as_mut_ptr(),

@@ -9,13 +9,14 @@ mod foreign;
 mod refusal;
 
 pub use answer::{Answer, ANSWER_BYTES, ON_HOLD};
-pub use refusal::{Place, Refusal};
+pub use refusal::{Place, Refusal, HIGHEST_LOST};
 
 use foreign::Report;
 
 /// Room for the longest of each.
 pub const SCHEME_BYTES: usize = 6633;
 pub const MATRIX_BYTES: usize = 37208;
+pub const OLD_MATRIX_BYTES: usize = 37206;
 pub const REQUEST_BYTES: usize = 22;
 
 /// Where in a matrix's bytes the highest id stands that it ever had.
@@ -40,7 +41,7 @@ impl Run {
 }
 
 /// The version of the interface that this wrapper was written for.
-pub const VERSION: u32 = 6;
+pub const VERSION: u32 = 7;
 
 /// The version that the linked archive has: another one than `VERSION` means that the two don't belong together.
 pub fn version() -> u32 {
@@ -62,7 +63,7 @@ pub fn check_matrix(scheme: &[u8], matrix: &[u8]) -> Result<usize, Refusal> {
 }
 
 /// The highest id that a matrix ever had, of bytes that `check_matrix` accepts or that a run wrote. Ids up to it are never
-/// created again, so a new key gets one above it.
+/// created again, so a new key gets one above it. An old image has none, and what stands there is something else.
 pub fn highest_id(matrix: &[u8]) -> Option<u16> {
     let field = matrix.get(HIGHEST_AT..)?.first_chunk()?;
     Some(u16::from_le_bytes(*field))
@@ -116,6 +117,25 @@ pub fn hold(scheme: &[u8], matrix: &[u8], id: u16, out: &mut [u8]) -> Result<usi
 pub fn release(scheme: &[u8], matrix: &[u8], id: u16, out: &mut [u8]) -> Result<usize, Refusal> {
     let mut report = Report::new();
     let number = foreign::mark(false, scheme, matrix, id, out, &mut report);
+    report.result(number).map(|()| report.written())
+}
+
+/// Turns an old image, from before there was a highest id, into a matrix: its highest id is the highest listed one, 0 for no
+/// things, and all else stays, what is on hold too. Writes the matrix, and gives its length, 2 more than the old image's;
+/// `back` gives that image again. On an error the buffer is as it was.
+pub fn forward(scheme: &[u8], old: &[u8], out: &mut [u8]) -> Result<usize, Refusal> {
+    let mut report = Report::new();
+    let number = foreign::move_image(true, scheme, old, out, &mut report);
+    report.result(number).map(|()| report.written())
+}
+
+/// Turns a matrix into an old image, for a robot that is still from before there was a highest id. Writes the image, and gives
+/// its length, 2 less than the matrix's; `forward` gives the matrix again. `HIGHEST_LOST` where the highest id isn't the highest
+/// listed one. What is on hold stays so: a robot from before there were marks refuses the image rather than lose one. On an
+/// error the buffer is as it was.
+pub fn back(scheme: &[u8], matrix: &[u8], out: &mut [u8]) -> Result<usize, Refusal> {
+    let mut report = Report::new();
+    let number = foreign::move_image(false, scheme, matrix, out, &mut report);
     report.result(number).map(|()| report.written())
 }
 

@@ -3,9 +3,14 @@
 use core::error::Error;
 use core::fmt;
 
+/// The number of a matrix that can't go back to a robot from before there was a highest id: that id would be lost there, and a
+/// retired key's number might be given out again. It must stay with robots that have this library.
+pub const HIGHEST_LOST: u8 = 23;
+
 #[derive(Clone, Copy, Debug, PartialEq, Eq)]
 pub enum Place {
     Scheme,
+    /// The matrix; for `forward` the old image.
     Matrix,
     Requests,
     /// The buffer for the answers is too short.
@@ -16,7 +21,8 @@ pub enum Place {
 
 #[derive(Clone, Copy, Debug, PartialEq, Eq)]
 pub struct Refusal {
-    /// The outline's number: 1 to 9, 20 to 22, or 12 where no thing has the id that `hold` or `release` is given.
+    /// The outline's number: 1 to 9, 20 to 22, 12 where no thing has the id that `hold` or `release` is given, or
+    /// `HIGHEST_LOST` from `back`.
     pub number: u8,
     pub place: Place,
     /// The position of the record at fault; 0 where none is meant.

@@ -1,8 +1,9 @@
 //! The outline's key example through the wrapper: each function once with success and once refused.
 
 use slushferret::{
-    check_matrix, check_scheme, convert_matrix, convert_scheme, highest_id, hold, release, run,
-    version, write_request, Answer, Place, Refusal, ANSWER_BYTES, ON_HOLD, VERSION,
+    back, check_matrix, check_scheme, convert_matrix, convert_scheme, forward, highest_id, hold,
+    release, run, version, write_request, Answer, Place, Refusal, ANSWER_BYTES, HIGHEST_LOST,
+    ON_HOLD, VERSION,
 };
 
 const SCHEME: [u8; 47] = [
@@ -199,6 +200,75 @@ fn a_key_number_is_never_used_again() {
     assert_eq!(highest_id(&KEYS), Some(5));
     assert_eq!(highest_id(&after), Some(32));
     assert_eq!(highest_id(&KEYS[..7]), None);
+}
+
+/// The matrix as it was stored before there was a highest id: only the head is another one.
+fn old_image(matrix: &[u8; 61]) -> [u8; 59] {
+    let mut bytes = [0; 59];
+    bytes[..6].copy_from_slice(&[2, 0, 3, 0, 4, 3]);
+    bytes[6..].copy_from_slice(&matrix[8..]);
+    bytes
+}
+
+#[test]
+fn an_old_image_goes_forward_and_back() {
+    for matrix in [MATRIX, with_robot_on_hold()] {
+        let old = old_image(&matrix);
+        let mut new = [99; 62];
+        assert_eq!(forward(&SCHEME, &old, &mut new), Ok(61));
+        assert_eq!((&new[..61], new[61]), (&matrix[..], 99));
+        let mut again = [99; 60];
+        assert_eq!(back(&SCHEME, &matrix, &mut again), Ok(59));
+        assert_eq!((&again[..59], again[59]), (&old[..], 99));
+    }
+}
+
+#[test]
+fn a_highest_id_that_no_thing_has_is_not_lost() {
+    // key 31 is issued and scrapped
+    let (mut list, mut answers, mut after) = ([0; 20], [99; 2 * ANSWER_BYTES], [0; 15]);
+    let at = write_request(0, &[5, 31], &mut list, 0).unwrap();
+    write_request(1, &[5, 31], &mut list, at).unwrap();
+    run(&KEYS_SCHEME, &KEYS, &list, &mut answers, &mut after).unwrap();
+    assert_eq!(highest_id(&after), Some(31));
+    let mut old = [99; 13];
+    let lost = back(&KEYS_SCHEME, &after, &mut old);
+    assert_eq!(lost, Err(refusal(HIGHEST_LOST, Place::Matrix, 0)));
+    let lost = back(&KEYS_SCHEME, &after, &mut old[..12]);
+    assert_eq!(lost, Err(refusal(HIGHEST_LOST, Place::Matrix, 0)));
+    assert_eq!(old, [99; 13]);
+    assert_eq!(back(&KEYS_SCHEME, &KEYS, &mut old), Ok(13));
+    assert_eq!(old, [2, 0, 3, 0, 1, 1, 3, 0, 4, 0, 5, 0, 0]);
+}
+
+#[test]
+fn refused_moves_store_nothing() {
+    let (old, mut out) = (old_image(&MATRIX), [99; 61]);
+    for call in [forward, back] {
+        let cut = call(&SCHEME[..46], &[], &mut out);
+        assert_eq!(cut, Err(refusal(1, Place::Scheme, 26)));
+        assert_eq!(
+            call(&SCHEME, &[], &mut out),
+            Err(refusal(1, Place::Matrix, 0))
+        );
+    }
+    let too_little = [
+        forward(&SCHEME, &old, &mut out[..60]),
+        back(&SCHEME, &MATRIX, &mut out[..58]),
+    ];
+    assert_eq!(too_little, [Err(refusal(9, Place::Output, 0)); 2]);
+    let cut = forward(&SCHEME, &old[..58], &mut out);
+    assert_eq!(cut, Err(refusal(1, Place::Matrix, 43)));
+    let cut = back(&SCHEME, &MATRIX[..60], &mut out);
+    assert_eq!(cut, Err(refusal(1, Place::Matrix, 45)));
+    // each takes the other's image for one of a kind that may not stand there, as all others take an old one
+    let swapped = [
+        forward(&SCHEME, &MATRIX, &mut out),
+        back(&SCHEME, &old, &mut out),
+        check_matrix(&SCHEME, &old),
+    ];
+    assert_eq!(swapped, [Err(refusal(2, Place::Matrix, 0)); 3]);
+    assert_eq!(out, [99; 61]);
 }
 
 #[test]

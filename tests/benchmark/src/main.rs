@@ -67,6 +67,7 @@ fn print_calls() {
     one_request(&mut table, "the key matrix", &key);
     one_request(&mut table, "the largest matrix", &largest);
     hold(&mut table, "the largest matrix", &largest);
+    moves(&mut table, "the largest matrix", &largest);
     write(&mut table);
     table.print();
 }
@@ -171,6 +172,28 @@ fn hold(table: &mut Table, matrix: &str, load: &Load) {
         &format!("hold a thing of {matrix}, {} bytes", m.len()),
         &mut || slushferret::hold(s, m, id, &mut out),
         &mut || theirs::hold(s, m, id),
+    );
+}
+
+/// Scheme and image read and checked, the other image written.
+fn moves(table: &mut Table, matrix: &str, load: &Load) {
+    let (s, new) = (&load.scheme_bytes, &load.matrix_bytes);
+    let mut out = vec![0; slushferret::MATRIX_BYTES];
+    let old = theirs::back(s, new);
+    assert_eq!(slushferret::back(s, new, &mut out), Ok(old.len()));
+    assert_eq!(out[..old.len()], old, "the old images differ");
+    assert_eq!(slushferret::forward(s, &old, &mut out), Ok(new.len()));
+    assert_eq!(out[..new.len()], new[..], "the new images differ");
+    assert_eq!(theirs::forward(s, &old), *new, "there and back");
+    table.calls(
+        &format!("move {matrix} forward, {} bytes", old.len()),
+        &mut || slushferret::forward(s, &old, &mut out),
+        &mut || theirs::forward(s, &old),
+    );
+    table.calls(
+        &format!("move {matrix} back, {} bytes", new.len()),
+        &mut || slushferret::back(s, new, &mut out),
+        &mut || theirs::back(s, new),
     );
 }
 

@@ -5,6 +5,7 @@ use independent::convert;
 use independent::engine::Dense;
 use independent::hold::mark;
 use independent::matrix::{read_matrix, write_matrix, Matrix};
+use independent::moving;
 use independent::scheme::{read_scheme, write_scheme, Scheme};
 
 pub fn scheme(bytes: &[u8]) -> Scheme {
@@ -33,6 +34,14 @@ pub fn hold(scheme_bytes: &[u8], bytes: &[u8], id: u16) -> Vec<u8> {
     let (scheme, matrix) = matrix(scheme_bytes, bytes);
     let marked = mark(&matrix, id, true).expect("the load has the thing");
     write_matrix(&marked, &scheme)
+}
+
+pub fn forward(scheme_bytes: &[u8], old: &[u8]) -> Vec<u8> {
+    moving::forward(&scheme(scheme_bytes), old).expect("the load's old image is accepted")
+}
+
+pub fn back(scheme_bytes: &[u8], new: &[u8]) -> Vec<u8> {
+    moving::back(&scheme(scheme_bytes), new).expect("the load's highest id is listed")
 }
 
 /// The answer's bytes, and the matrix afterwards.

@@ -5,6 +5,7 @@ use std::ops::Range;
 
 use independent::generate::{case, Case};
 
+use crate::images::{images, Image};
 use crate::Stop;
 
 /// Buffers of just the right length take many calls, so that only some cases try them.
@@ -14,7 +15,8 @@ pub fn tries_edges(number: u64) -> bool {
 
 pub fn write(seed: u64, numbers: Range<u64>, mut out: impl Write) -> Result<(), Stop> {
     for number in numbers {
-        let bytes = bytes(&case(seed, number), tries_edges(number));
+        let case = case(seed, number);
+        let bytes = bytes(&case, tries_edges(number), &images(&case, number));
         if !sent(out.write_all(&bytes))? {
             return Ok(());
         }
@@ -31,7 +33,7 @@ fn sent(answer: io::Result<()>) -> Result<bool, Stop> {
     }
 }
 
-fn bytes(case: &Case, edges: bool) -> Vec<u8> {
+fn bytes(case: &Case, edges: bool, images: &[Image]) -> Vec<u8> {
     let mut bytes = Vec::new();
     let lengths = [
         case.scheme.len(),
@@ -41,10 +43,11 @@ fn bytes(case: &Case, edges: bool) -> Vec<u8> {
         usize::from(edges),
         case.direct.len(),
         case.marks.len(),
+        images.len(),
+        case.moved_room,
     ];
     for length in lengths {
-        let length = u32::try_from(length).expect("the parts of a case are short");
-        bytes.extend(length.to_le_bytes());
+        bytes.extend(four_bytes(length));
     }
     bytes.extend(&case.scheme);
     bytes.extend(&case.matrix);
@@ -60,5 +63,15 @@ fn bytes(case: &Case, edges: bool) -> Vec<u8> {
         bytes.extend(id.to_le_bytes());
         bytes.push(u8::from(*held));
     }
+    for image in images {
+        bytes.extend(four_bytes(image.bytes.len()));
+        bytes.push(u8::from(image.forward));
+        bytes.extend(&image.bytes);
+    }
     bytes
+}
+
+fn four_bytes(length: usize) -> [u8; 4] {
+    let length = u32::try_from(length).expect("the parts of a case are short");
+    length.to_le_bytes()
 }

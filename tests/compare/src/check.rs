@@ -8,13 +8,16 @@ use independent::generate::case;
 use crate::cases::tries_edges;
 use crate::counts::Counts;
 use crate::expected::expected;
+use crate::images::images;
 use crate::told::Told;
 use crate::Stop;
 
 pub fn check(seed: u64, numbers: Range<u64>, mut input: impl Read) -> Result<(), Stop> {
     let mut counts = Counts::default();
     for number in numbers {
-        let all = expected(&case(seed, number), tries_edges(number), &mut counts);
+        let case = case(seed, number);
+        let images = images(&case, number);
+        let all = expected(&case, &images, tries_edges(number), &mut counts);
         for (place, told) in all.iter().enumerate() {
             if let Err(what) = compare(told, &mut input) {
                 return Err(Stop::Differs(format!(

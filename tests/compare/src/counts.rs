@@ -27,7 +27,7 @@ pub struct Counts {
     /// All requests, by their steps.
     steps: BTreeMap<u8, u64>,
     faults: BTreeMap<Fault, u64>,
-    /// What the highest id and the marks decided.
+    /// What the highest id, the marks and the moves decided.
     pub ways: Ways,
 }
 

@@ -3,6 +3,7 @@
 mod conversion;
 mod direct;
 mod marking;
+mod moving;
 mod running;
 
 use independent::generate::Case;
@@ -12,6 +13,7 @@ use independent::scheme::{find_scheme, Scheme};
 
 use crate::buffer::{hash_all, stored, UNTOUCHED};
 use crate::counts::Counts;
+use crate::images::Image;
 use crate::told::{report, Call, Told};
 
 /// The driver's large buffers.
@@ -68,16 +70,25 @@ struct Content {
 }
 
 /// `edges`: buffers of just the right length are tried too.
-pub fn expected(case: &Case, edges: bool, counts: &mut Counts) -> Vec<Told> {
+pub fn expected(case: &Case, images: &[Image], edges: bool, counts: &mut Counts) -> Vec<Told> {
     let content = read(case, counts);
     let mut told = Vec::new();
     check(case, &content, &mut told);
     conversion::expect(case, edges, &content, &mut told);
     let matrix = running::expect(case, edges, &content, counts, &mut told);
-    direct::expect(case, matrix, counts, &mut told);
+    let matrix = direct::expect(case, matrix, counts, &mut told);
+    moving::expect_after(matrix, counts, &mut told);
     marking::expect(case, edges, &content, counts, &mut told);
+    moving::expect(
+        case.moved_room,
+        edges,
+        (images, &content),
+        counts,
+        &mut told,
+    );
     let inputs = [&case.scheme[..], &case.matrix, &case.requests];
-    told.push(Told::inputs(hash_all(&inputs)));
+    let moved: Vec<&[u8]> = images.iter().map(|image| &image.bytes[..]).collect();
+    told.push(Told::inputs(hash_all(&inputs), hash_all(&moved)));
     told
 }
 

@@ -6,6 +6,7 @@ mod check;
 mod counts;
 mod expected;
 mod folder;
+mod images;
 mod list;
 mod play;
 mod told;

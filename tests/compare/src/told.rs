@@ -45,7 +45,22 @@ pub enum Call {
     },
     /// The list on the matrix that all marks left.
     RunMarked,
+    /// Forward, or else back.
+    Move {
+        forward: bool,
+        what: Moved,
+    },
     Inputs,
+}
+
+#[derive(Clone, Copy, Debug)]
+pub enum Moved {
+    /// One of the case's images.
+    Image { image: usize, out: usize },
+    /// What that gave, the other way.
+    Again { image: usize },
+    /// The matrix that the requests left.
+    After,
 }
 
 impl Call {
@@ -63,7 +78,9 @@ impl Call {
             Call::WriteRequest { .. } => 6,
             Call::Mark { held: true, .. } | Call::MarkInTurn { held: true, .. } => 7,
             Call::Mark { .. } | Call::MarkInTurn { .. } => 8,
-            Call::Inputs => 9,
+            Call::Move { forward: true, .. } => 9,
+            Call::Move { .. } => 10,
+            Call::Inputs => 11,
         }
     }
 }
@@ -96,7 +113,18 @@ impl fmt::Display for Call {
                 write!(f, "{} {id} behind the marks before", mark_words(*held))
             }
             Call::RunMarked => write!(f, "running the list behind all marks"),
+            Call::Move { forward, what } => write!(f, "moving {} {what}", way(*forward)),
             Call::Inputs => write!(f, "after all calls"),
+        }
+    }
+}
+
+impl fmt::Display for Moved {
+    fn fmt(&self, f: &mut fmt::Formatter) -> fmt::Result {
+        match self {
+            Moved::Image { image, out } => write!(f, "image {image} into {out} bytes"),
+            Moved::Again { image } => write!(f, "what image {image} gave"),
+            Moved::After => write!(f, "the matrix that the requests left"),
         }
     }
 }
@@ -106,6 +134,14 @@ fn mark_words(held: bool) -> &'static str {
         "holding"
     } else {
         "releasing"
+    }
+}
+
+fn way(forward: bool) -> &'static str {
+    if forward {
+        "forward"
+    } else {
+        "back"
     }
 }
 
@@ -160,12 +196,16 @@ impl Told {
         self
     }
 
-    /// What was only lent to be read.
-    pub fn inputs(hash: u64) -> Told {
+    /// What was only lent to be read: the case's three parts, and the images.
+    pub fn inputs(parts: u64, images: u64) -> Told {
         let call = Call::Inputs;
         Told {
             call,
-            numbers: vec![("the call", call.code()), ("the inputs' hash", hash)],
+            numbers: vec![
+                ("the call", call.code()),
+                ("the inputs' hash", parts),
+                ("the images' hash", images),
+            ],
         }
     }
 }

@@ -1,4 +1,5 @@
-//! Counts the ways in which matrices, requests and marks stood to the highest id and to what is on hold, as they are read, carried out and set.
+//! Counts the ways in which matrices, requests and marks stood to the highest id and to what is on hold, as they are read, carried out and set, and in
+//! which images stood to a move.
 
 use std::fmt;
 
@@ -6,14 +7,16 @@ use independent::answer::Answer;
 use independent::engine;
 use independent::hold;
 use independent::matrix::Matrix;
+use independent::moving;
 use independent::refusal::{Found, Refusal};
 use independent::scheme::Scheme;
-use independent::statistics::{Held, Highest, Met, Stood};
+use independent::statistics::{Held, Highest, Met, Moved, Moves, Stood};
 
 #[derive(Default)]
 pub struct Ways {
     highest: Highest,
     held: Held,
+    moves: Moves,
 }
 
 impl Ways {
@@ -52,6 +55,23 @@ impl Ways {
         self.held.mark(id, held, matrix, &marked);
         marked
     }
+
+    /// Moves an image forward, or else back, where the buffer has this length.
+    pub fn move_image(
+        &mut self,
+        scheme: &Scheme,
+        forward: bool,
+        image: &[u8],
+        room: usize,
+    ) -> Result<Vec<u8>, Refusal> {
+        if forward {
+            self.moves.forward(scheme, image, room);
+            moving::forward(scheme, image)
+        } else {
+            self.moves.back(scheme, image, room);
+            moving::back(scheme, image)
+        }
+    }
 }
 
 /// A line a count, as all of `Counts`.
@@ -64,6 +84,10 @@ impl fmt::Display for Ways {
         for &stood in Stood::ALL {
             let count = self.held.count(stood);
             writeln!(f, "{count} times by a mark, {}", stood.words())?;
+        }
+        for moved in Moved::all() {
+            let count = self.moves.count(moved);
+            writeln!(f, "{count} times by a move, {}", moved.words())?;
         }
         Ok(())
     }

@@ -7,7 +7,8 @@ pub const COMMAND: u16 = 2;
 pub const THING: u16 = 4;
 pub const CELL: u16 = 5;
 pub const REQUEST: u16 = 6;
-/// Kind 3 was a head without the highest id; no reading takes it any more.
+/// The head of an old image, as a matrix was stored before it kept the highest id; only moving it forward takes it.
+pub const OLD_MATRIX_HEAD: u16 = 3;
 pub const MATRIX_HEAD: u16 = 7;
 /// A thing on hold; its body is that of one that isn't.
 pub const HELD_THING: u16 = 8;

@@ -3,6 +3,7 @@
 
 mod asked;
 mod at_position;
+mod backs;
 mod carrying_out;
 mod commands;
 mod conversions;
@@ -10,6 +11,7 @@ mod encoded;
 mod examples;
 mod fields;
 mod forms;
+mod forwards;
 mod held_plans;
 mod holds;
 mod largest;
@@ -18,11 +20,16 @@ mod lists;
 mod marked;
 mod marks;
 mod matrices;
+mod moved;
+mod old_images;
 mod on_hold;
 mod parts;
+mod placed;
 mod planned;
 mod plans;
 mod requests;
+mod rests;
+mod rooms;
 mod said;
 mod schemes;
 mod seats;
@@ -51,6 +58,13 @@ pub struct Case {
 
 /// All cases, in the order in which they are carried out; at first there is no scheme, and a matrix of nothing.
 pub fn cases() -> Vec<Case> {
+    let moves = [rests::cases(), forwards::cases(), backs::cases()];
+    let before = [before_moves(), moves.concat()].concat();
+    let moved = moved::cases(&before);
+    [before, moved, placed::cases()].concat()
+}
+
+fn before_moves() -> Vec<Case> {
     [
         schemes::cases(),
         matrices::cases(),

@@ -6,20 +6,22 @@ mod ids;
 pub mod kinds;
 pub mod marks;
 pub mod matrices;
+pub mod moves;
 mod places;
 pub mod random;
 pub mod requests;
 pub mod schemes;
+mod spoil;
 pub mod steps;
 pub mod stops;
 
-use crate::matrix::{read_matrix, write_matrix};
+use crate::matrix::{read_matrix, write_matrix, Matrix};
 use crate::print::MOST_INPUT;
-use crate::scheme::{read_scheme, write_scheme};
+use crate::scheme::{read_scheme, write_scheme, Scheme};
 use random::Random;
 
 /// The three inputs of `play`, and what no file of `play` can hold.
-#[derive(Clone, Debug, PartialEq, Eq)]
+#[derive(Clone, Debug, Default, PartialEq, Eq)]
 pub struct Case {
     pub scheme: Vec<u8>,
     pub matrix: Vec<u8>,
@@ -30,6 +32,12 @@ pub struct Case {
     pub marks: Vec<(u16, bool)>,
     /// The length of an output buffer to write into.
     pub room: usize,
+    /// An image to move forward, which is mostly an old one.
+    pub old: Vec<u8>,
+    /// An image to move back, which is mostly a new one.
+    pub new: Vec<u8>,
+    /// The length of an output buffer to move them into.
+    pub moved_room: usize,
 }
 
 /// In one of so many cases the requests of `stops` come first, and in two others those of `steps`.
@@ -52,10 +60,7 @@ pub fn case(seed: u64, number: u64) -> Case {
     let mut case = Case {
         scheme: write_scheme(&scheme),
         matrix: write_matrix(&matrix, &scheme),
-        requests: Vec::new(),
-        direct: Vec::new(),
-        marks: Vec::new(),
-        room: 0,
+        ..Case::default()
     };
     damage_content(random, &mut case);
 
@@ -70,11 +75,19 @@ pub fn case(seed: u64, number: u64) -> Case {
         }
     }
     case.marks = marks::marks(marking, &matrix);
+    let moving = &mut Random::new(seed, !number);
+    put_images(moving, &mut case, &scheme, &matrix);
     case.requests = requests::list(random, &scheme, &mut matrix, &first);
     case.direct = requests::direct(random, &scheme, &matrix);
     damage_requests(random, &mut case.requests);
     case.room = room(random, &case);
     case
+}
+
+/// To move, of this scheme and matrix.
+fn put_images(random: &mut Random, case: &mut Case, scheme: &Scheme, matrix: &Matrix) {
+    let moves = moves::moves(random, scheme, matrix);
+    (case.old, case.new, case.moved_room) = (moves.old, moves.new, moves.room);
 }
 
 /// Scheme or matrix, in about half of the cases.

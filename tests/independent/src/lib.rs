@@ -8,6 +8,7 @@ pub mod engine;
 pub mod generate;
 pub mod hold;
 pub mod matrix;
+pub mod moving;
 pub mod print;
 pub mod refusal;
 pub mod request;

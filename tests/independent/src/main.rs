@@ -11,8 +11,9 @@ use independent::edges;
 use independent::generate::case;
 use independent::hold::mark;
 use independent::matrix::{find_matrix, write_matrix, Matrix};
+use independent::moving::{back, forward, Moving};
 use independent::print::{bad, list_matrix, list_scheme, play};
-use independent::refusal::Found;
+use independent::refusal::{Found, Refusal};
 use independent::scheme::{find_scheme, write_scheme, Scheme};
 use independent::statistics::Statistics;
 
@@ -24,9 +25,11 @@ const EXPECTED: &str = "expected one of
                                            `ok SCHEME-BYTES MATRIX-BYTES`, `bad POSITION NUMBER` or `refused NUMBER`
   independent hold SCHEME MATRIX ID OUT    `ok MATRIX-BYTES`, `bad POSITION NUMBER` or `refused NUMBER`
   independent release SCHEME MATRIX ID OUT the same
+  independent forward SCHEME OLD NEW       `ok NEW-BYTES` or `bad POSITION NUMBER`
+  independent back SCHEME NEW OLD          `ok OLD-BYTES`, `bad POSITION NUMBER` or `refused NUMBER`
   independent generate SEED COUNT FOLDER   a numbered folder for each case
   independent statistics SEED COUNT        how often each refusal comes up, each test that stops a request, each number of steps, what the highest
-                                           id decides, and each way to stand to a mark
+                                           id decides, and each way to stand to a mark and to a move
   independent edges stdin                  the cases of the project's program `edges`, as bytes
   independent edges stdout                 what that program must print
 where SEED and COUNT are numbers from 0 to 18446744073709551615, and ID is one from 0 to 65535";
@@ -45,6 +48,8 @@ fn main() -> ExitCode {
             Ok(id) => run_mark(scheme, matrix, (id, tool == "hold"), out),
             Err(_) => return wrong_call("ID must be a number"),
         },
+        ["forward", scheme, old, new] => run_move(scheme, old, forward, new),
+        ["back", scheme, new, old] => run_move(scheme, new, back, old),
         ["generate", seed, count, folder] => match (seed.parse(), count.parse()) {
             (Ok(seed), Ok(count)) => run_generate(seed, count, Path::new(folder)),
             _ => return wrong_call("SEED and COUNT must be numbers"),
@@ -146,6 +151,23 @@ fn run_mark(
     }
 }
 
+fn run_move(scheme: &str, image: &str, moving: Moving, out: &str) -> Result<String, String> {
+    let (scheme, image) = (read(scheme)?, read(image)?);
+    let scheme = match find_scheme(&scheme) {
+        Ok((scheme, _)) => scheme,
+        Err(found) => return Ok(tell(found)),
+    };
+    match moving(&scheme, &image) {
+        Ok(moved) => {
+            write(out, &moved)?;
+            Ok(format!("ok {}\n", moved.len()))
+        }
+        // Not a fault of the image's bytes.
+        Err(Refusal { number: 23, .. }) => Ok("refused 23\n".to_string()),
+        Err(refusal) => Ok(bad(refusal)),
+    }
+}
+
 fn run_generate(seed: u64, count: u64, folder: &Path) -> Result<String, String> {
     for number in 0..count {
         let case = case(seed, number);
@@ -154,6 +176,8 @@ fn run_generate(seed: u64, count: u64, folder: &Path) -> Result<String, String> 
         write(folder.join("scheme.bin"), &case.scheme)?;
         write(folder.join("matrix.bin"), &case.matrix)?;
         write(folder.join("requests.bin"), &case.requests)?;
+        write(folder.join("old.bin"), &case.old)?;
+        write(folder.join("new.bin"), &case.new)?;
         let mut direct = String::new();
         for (command, ids) in &case.direct {
             let ids: String = ids.iter().map(|id| format!(" {id}")).collect();
@@ -166,10 +190,9 @@ fn run_generate(seed: u64, count: u64, folder: &Path) -> Result<String, String> 
         };
         let marks: String = case.marks.iter().map(words).collect();
         write(folder.join("marks.txt"), marks.as_bytes())?;
-        write(
-            folder.join("room.txt"),
-            format!("{}\n", case.room).as_bytes(),
-        )?;
+        for (name, room) in [("room.txt", case.room), ("moved-room.txt", case.moved_room)] {
+            write(folder.join(name), format!("{room}\n").as_bytes())?;
+        }
     }
     Ok(format!("{count} cases\n"))
 }

@@ -119,11 +119,23 @@ pub fn read_matrix(input: &[u8], scheme: &Scheme) -> Result<Matrix, Refusal> {
 /// The same with the fault by name.
 pub fn find_matrix(input: &[u8], scheme: &Scheme) -> Result<Matrix, Found> {
     let head = Record::read(input, 0, MATRIX_HEAD)?;
-    let mut at = head.next;
+    let at = head.next;
     let (things, highest) = read_head(head, scheme)?;
-
-    let mut matrix = Matrix::new();
+    let mut matrix = find_rest(input, at, scheme, things, highest)?;
     matrix.raise_highest(highest);
+    Ok(matrix)
+}
+
+/// So many things from a position on, with ids up to the highest one that there may be, then cells to the end of the input. The matrix's highest id is the
+/// highest listed one.
+pub fn find_rest(
+    input: &[u8],
+    mut at: usize,
+    scheme: &Scheme,
+    things: u8,
+    highest: u16,
+) -> Result<Matrix, Found> {
+    let mut matrix = Matrix::new();
     let mut last_id = 0;
     for _ in 0..things {
         let thing = Record::read_of(input, at, is_thing)?;
@@ -148,6 +160,15 @@ pub fn find_matrix(input: &[u8], scheme: &Scheme) -> Result<Matrix, Found> {
 
 /// How many things a head states, and the highest id.
 pub fn read_head(mut head: Record, scheme: &Scheme) -> Result<(u8, u16), Found> {
+    let things = read_counts(&mut head, scheme)?;
+    // Any number may be the highest: whether it fits is found at the things.
+    let highest = head.two()?;
+    head.end()?;
+    Ok((things, highest))
+}
+
+/// The fields with which every head of a matrix begins: the rights, and how many things there are, which is told.
+pub fn read_counts(head: &mut Record, scheme: &Scheme) -> Result<u8, Found> {
     let rights = head.one()?;
     head.must(
         (1..=MOST_RIGHTS).contains(&rights),
@@ -156,10 +177,7 @@ pub fn read_head(mut head: Record, scheme: &Scheme) -> Result<(u8, u16), Found> 
     head.must(rights == scheme.rights, Fault::MatrixRightsOther)?;
     let things = head.one()?;
     head.must(things as usize <= MOST_THINGS, Fault::ThingsCount)?;
-    // Any number may be the highest: whether it fits is found at the things.
-    let highest = head.two()?;
-    head.end()?;
-    Ok((things, highest))
+    Ok(things)
 }
 
 /// The kinds that may stand at a thing's place.
@@ -223,13 +241,15 @@ pub fn write_matrix(matrix: &Matrix, scheme: &Scheme) -> Vec<u8> {
     let [low, high] = matrix.highest.to_le_bytes();
     let head = [scheme.rights, matrix.things.len() as u8, low, high];
     put_record(&mut out, MATRIX_HEAD, &head);
+    put_rest(&mut out, matrix);
+    out
+}
+
+/// Writes the things and the cells that aren't empty behind a head.
+pub fn put_rest(out: &mut Vec<u8>, matrix: &Matrix) {
     for (id, kind) in &matrix.things {
         let [low, high] = id.to_le_bytes();
-        put_record(
-            &mut out,
-            thing_kind(matrix.is_held(*id)),
-            &[low, high, *kind],
-        );
+        put_record(out, thing_kind(matrix.is_held(*id)), &[low, high, *kind]);
     }
     for ((row, column), rights) in &matrix.cells {
         if *rights != 0 {
@@ -237,8 +257,7 @@ pub fn write_matrix(matrix: &Matrix, scheme: &Scheme) -> Vec<u8> {
             body.extend(row.to_le_bytes());
             body.extend(column.to_le_bytes());
             body.extend(rights.to_le_bytes());
-            put_record(&mut out, CELL, &body);
+            put_record(out, CELL, &body);
         }
     }
-    out
 }

@@ -3,10 +3,12 @@
 mod answers;
 mod held;
 mod highest;
+mod moved;
 
 pub use answers::{Answers, Stands};
 pub use held::{Held, Stood};
 pub use highest::{Highest, Met};
+pub use moved::{Direction, Lost, Mistaken, Moved, Moves, Place, Short, Went};
 
 use std::collections::BTreeMap;
 use std::fmt;
@@ -17,8 +19,9 @@ use crate::engine::carry_out;
 use crate::generate::{case, Case};
 use crate::hold::mark;
 use crate::matrix::{find_matrix, write_matrix, Matrix};
+use crate::moving::{back, forward};
 use crate::print::MOST_INPUT;
-use crate::refusal::{Fault, Found};
+use crate::refusal::{Fault, Found, Refusal};
 use crate::request::{find_request, write_request};
 use crate::scheme::{find_scheme, write_scheme, Scheme};
 
@@ -32,9 +35,11 @@ pub enum Asked {
     Conversion,
     Marking,
     Writing,
+    Forward,
+    Back,
 }
 
-const COLUMNS: [(Asked, &str); 7] = [
+const COLUMNS: [(Asked, &str); 9] = [
     (Asked::Scheme, "scheme"),
     (Asked::Matrix, "matrix"),
     (Asked::RequestRecord, "record"),
@@ -42,6 +47,8 @@ const COLUMNS: [(Asked, &str); 7] = [
     (Asked::Conversion, "conversion"),
     (Asked::Marking, "marking"),
     (Asked::Writing, "writing"),
+    (Asked::Forward, "forward"),
+    (Asked::Back, "back"),
 ];
 
 #[derive(Clone, Debug, Default)]
@@ -51,6 +58,7 @@ pub struct Statistics {
     pub answers: Answers,
     pub highest: Highest,
     pub held: Held,
+    pub moves: Moves,
 }
 
 impl Statistics {
@@ -74,6 +82,7 @@ impl Statistics {
         let Some((scheme, _)) = self.reading(Asked::Scheme, find_scheme(&case.scheme)) else {
             return;
         };
+        self.move_images(&scheme, case);
         let found = find_matrix(&case.matrix, &scheme);
         if let Err(found) = found {
             self.highest.refused_matrix(found, &case.matrix, &scheme);
@@ -145,6 +154,24 @@ impl Statistics {
         }
     }
 
+    /// Reading's own numbers, on the way back 23, then 9.
+    fn move_images(&mut self, scheme: &Scheme, case: &Case) {
+        let mut out = vec![0; case.moved_room];
+        let mut number = |moved: Result<Vec<u8>, Refusal>| {
+            let bytes = moved.map_err(|refusal| refusal.number);
+            let stored = bytes.and_then(|bytes| store(&bytes, &mut out));
+            stored.err().unwrap_or(0)
+        };
+        let numbers = [
+            number(forward(scheme, &case.old)),
+            number(back(scheme, &case.new)),
+        ];
+        self.note(Asked::Forward, numbers[0]);
+        self.note(Asked::Back, numbers[1]);
+        self.moves.forward(scheme, &case.old, case.moved_room);
+        self.moves.back(scheme, &case.new, case.moved_room);
+    }
+
     fn write(&mut self, scheme: &Scheme, matrix: &Matrix, case: &Case) {
         let mut out = vec![0; case.room];
         let mut all = vec![Ok(write_scheme(scheme)), Ok(write_matrix(matrix, scheme))];
@@ -185,7 +212,7 @@ impl fmt::Display for Statistics {
             write!(out, " {name:>10}")?;
         }
         writeln!(out)?;
-        for number in 0..=22 {
+        for number in 0..=23 {
             if number != 19 {
                 write!(out, "{number:>6}")?;
                 for (asked, _) in COLUMNS {
@@ -197,6 +224,7 @@ impl fmt::Display for Statistics {
         writeln!(out, "\n{}", self.answers)?;
         writeln!(out, "{}", self.highest)?;
         writeln!(out, "{}", self.held)?;
+        writeln!(out, "{}", self.moves)?;
         writeln!(out, "number      count fault")?;
         for fault in Fault::ALL {
             writeln!(

@@ -5,6 +5,7 @@ use std::collections::BTreeMap;
 use crate::convert::{check, convert_matrix, convert_scheme};
 use crate::hold::mark;
 use crate::matrix::{read_matrix, write_matrix, Matrix};
+use crate::moving::{back, forward, Moving};
 use crate::print::{answers, Columns, MOST_INPUT};
 use crate::refusal::Refusal;
 use crate::scheme::{read_scheme, write_scheme, Scheme};
@@ -28,6 +29,7 @@ enum Use<'a> {
     Convert(&'a [&'a str]),
     /// The files without the id between them; hold for true, release for false.
     Mark([&'a str; 3], u16, bool),
+    Move(&'a [&'a str], Moving),
 }
 
 /// Starts the program with these words, the tool's name first.
@@ -50,6 +52,7 @@ pub fn start(words: &[&str], folder: &mut Folder) -> Ended {
         Use::Run(files) => tool.run(files),
         Use::Convert(files) => tool.convert(files),
         Use::Mark(files, id, held) => tool.mark(files, id, held),
+        Use::Move(files, moving) => tool.move_image(files, moving),
     };
     ended.status = if done.is_some() { 0 } else { 1 };
     ended
@@ -67,6 +70,8 @@ fn understood<'a>(words: &'a [&'a str]) -> Option<Use<'a>> {
             let asked = Use::Mark(files, id_in(id.as_bytes())?, tool == "hold");
             (asked, clash(&files, 1))
         }
+        ("forward", [_, _, _]) => (Use::Move(rest, forward), clash(rest, 1)),
+        ("back", [_, _, _]) => (Use::Move(rest, back), clash(rest, 1)),
         _ => return None,
     };
     Some(asked).filter(|_| !clashes)
@@ -157,6 +162,15 @@ impl AtWork<'_> {
         let marked = mark(&matrix, id, held);
         let marked = self.read(files[1], marked, "; nothing was written")?;
         self.write(files[2], write_matrix(&marked, &scheme));
+        Some(())
+    }
+
+    fn move_image(&mut self, files: &[&str], moving: Moving) -> Option<()> {
+        let (scheme, image) = (self.load(files[0])?, self.load(files[1])?);
+        let ending = "; nothing was written";
+        let (scheme, _) = self.read(files[0], read_scheme(&scheme), ending)?;
+        let moved = self.read(files[1], moving(&scheme, &image), ending)?;
+        self.write(files[2], moved);
         Some(())
     }
 

@@ -1,5 +1,5 @@
 //! The generator reaches every refusal number, each fault by name, each test's place, each number of steps, all that the highest id decides and each way
-//! to stand to a mark; a seed gives the same cases always.
+//! to stand to a mark and to a move; a seed gives the same cases always.
 
 use std::collections::BTreeSet;
 
@@ -9,7 +9,7 @@ use independent::print::MOST_INPUT;
 use independent::refusal::Fault;
 use independent::request::find_request;
 use independent::scheme::{find_scheme, Operation, Scheme, MOST_TESTS};
-use independent::statistics::{Asked, Met, Stands, Statistics, Stood};
+use independent::statistics::{Asked, Met, Moved, Stands, Statistics, Stood};
 
 const SEED: u64 = 1;
 const COUNT: u64 = 10_000;
@@ -32,6 +32,8 @@ fn every_number_and_every_fault_is_reached() {
     reached(&[0, 9, 20, 21, 22], Asked::Conversion);
     reached(&[0, 9, 12], Asked::Marking);
     reached(&[0, 4, 9], Asked::Writing);
+    reached(&[0, 1, 2, 3, 4, 5, 6, 7, 9], Asked::Forward);
+    reached(&[0, 1, 2, 3, 4, 5, 6, 7, 9, 23], Asked::Back);
     for &fault in Fault::ALL {
         assert!(
             statistics.fault(fault) > 0,
@@ -48,7 +50,25 @@ fn every_number_and_every_fault_is_reached() {
         let count = statistics.held.count(stood);
         assert!(count > 0, "{}\n{statistics}", stood.words());
     }
+    images_stand_every_way(&statistics);
     assert_few_are_on_hold(&statistics);
+}
+
+/// To a move; and no way is met that has no words.
+fn images_stand_every_way(statistics: &Statistics) {
+    for moved in Moved::all() {
+        let count = statistics.moves.count(moved);
+        assert!(count > 0, "{}\n{statistics}", moved.words());
+    }
+    assert_eq!(statistics.moves.met(), Moved::all().into_iter().collect());
+}
+
+/// Each way has words of its own, by which a comparison tells it from the others.
+#[test]
+fn ways_to_stand_to_a_move_differ() {
+    let all = Moved::all();
+    let words: BTreeSet<String> = all.iter().map(|moved| moved.words()).collect();
+    assert_eq!((words.len(), all.len()), (171, 171));
 }
 
 /// Where too many requests name a thing on hold the other numbers are hardly met.

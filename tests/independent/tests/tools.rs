@@ -124,6 +124,91 @@ fn hold_and_release_refuse_in_their_order() {
     assert_eq!((ended.told, folder), (vec!["none: ".to_string()], key()));
 }
 
+/// The key example with its old image.
+fn both_images() -> Folder {
+    let mut folder = key();
+    folder.insert("o".to_string(), bytes(OLD_KEY_MATRIX));
+    folder
+}
+
+#[test]
+fn forward_and_back_write_the_other_image() {
+    let after = used("forward s o n", both_images(), 0, "n: 61 bytes\n");
+    assert_eq!(after["n"], after["m"]);
+    let after = used("back s n b", after, 0, "b: 59 bytes\n");
+    assert_eq!(after["b"], after["o"]);
+    // Into the file itself, and into that of the scheme.
+    let after = used("forward s o o", both_images(), 0, "o: 61 bytes\n");
+    assert_eq!(after["o"], after["m"]);
+    let after = used("back s o o", after, 0, "o: 59 bytes\n");
+    assert_eq!(after, both_images());
+    let after = used("back s m s", both_images(), 0, "s: 59 bytes\n");
+    assert_eq!(after["s"], after["o"]);
+    // Marks stay.
+    let mut held = both_images();
+    held.get_mut("o").unwrap()[15] = 8;
+    let after = used("forward s o n", held, 0, "n: 61 bytes\n");
+    assert_eq!((after["n"][10], after["n"][17], after["n"][24]), (4, 8, 4));
+}
+
+#[test]
+fn forward_and_back_refuse_in_their_order() {
+    let refused = |words: &str, folder: Folder, name: &str, number: u8, at: usize| {
+        let said =
+            format!("{name}: refused with number {number} at position {at}; nothing was written\n");
+        assert_eq!(used(words, folder.clone(), 1, &said), folder);
+    };
+    refused("forward s m n", both_images(), "m", 2, 0);
+    refused("back s o n", both_images(), "o", 2, 0);
+    refused("forward o s n", both_images(), "o", 2, 0);
+    let mut above = both_images();
+    above.get_mut("m").unwrap()[6] = 13;
+    refused("back s m n", above.clone(), "m", 23, 0);
+    refused("back s m m", above.clone(), "m", 23, 0);
+    above.get_mut("m").unwrap().push(0);
+    refused("back s m n", above.clone(), "m", 1, 61);
+    above.get_mut("o").unwrap()[24] = 9;
+    refused("forward s o n", above.clone(), "o", 7, 20);
+    // The scheme's fault comes first.
+    above.get_mut("s").unwrap().push(0);
+    refused("back s m n", above.clone(), "s", 8, 47);
+    refused("forward s o n", above, "s", 8, 47);
+
+    for tool in ["forward", "back"] {
+        let mut folder = both_images();
+        let ended = start(&[tool, "s", "none", "a"], &mut folder);
+        let said = "none: refused with number 1 at position 0; nothing was written\n";
+        assert_eq!((ended.status, &ended.said[..]), (1, said));
+        let told = vec!["none: ".to_string()];
+        assert_eq!((ended.told, folder), (told, both_images()));
+
+        let mut folder = both_images();
+        folder.insert("long".to_string(), vec![0; MOST_INPUT + 1]);
+        let ended = start(&[tool, "none", "long", "a"], &mut folder);
+        let told = ["none: ", "long: longer than 65536 bytes"].map(String::from);
+        assert_eq!((ended.status, &ended.said[..]), (1, ""));
+        assert_eq!(ended.told, told);
+    }
+}
+
+/// An image that was moved and asked: once a key number is used up, the way back is closed.
+#[test]
+fn a_used_up_number_closes_the_way_back() {
+    let mut folder = both_images();
+    // Its one command creates and destroys a key.
+    let scheme = "05 00 01 00 04 03 03 00 01 / \
+        0C 00 02 00 01 01 00 02 03 00 00 00 04 00 00 00";
+    folder.insert("s".to_string(), bytes(scheme));
+    folder.insert("q".to_string(), list(&[(0, &[13])]));
+    let folder = used("forward s o m", folder, 0, "m: 61 bytes\n");
+    let folder = used("back s m o", folder, 0, "o: 59 bytes\n");
+    let said = "request command result test steps\n0 0 0 255 2\nm: 61 bytes\n";
+    let folder = used("run s m q m", folder, 0, said);
+    assert_eq!(folder["m"][..8], [4, 0, 7, 0, 4, 3, 13, 0]);
+    let refused = "m: refused with number 23 at position 0; nothing was written\n";
+    assert_eq!(used("back s m o", folder.clone(), 1, refused), folder);
+}
+
 #[test]
 fn check_and_run_meet_things_on_hold() {
     let mut held = key();
@@ -186,6 +271,16 @@ fn wrong_uses_do_nothing() {
         "Hold s m 5 a",
         "hold",
         "release s",
+        "forward",
+        "forward s m",
+        "forward s m a b",
+        "back s",
+        "back s m 5 a",
+        "Back s m a",
+        "forward s a.new a",
+        "forward a.new m a",
+        "back s a.new a",
+        "back a.new m a",
     ] {
         assert_eq!(used(words, key(), 2, ""), key());
     }

@@ -10,12 +10,13 @@ use super::{written, Refused, LARGE, REQUESTS};
 use crate::counts::Counts;
 use crate::told::{Call, Told};
 
-pub fn expect(
+/// Gives the matrix after them.
+pub fn expect<'a>(
     case: &Case,
-    mut matrix: Option<(&Scheme, Matrix)>,
+    mut matrix: Option<(&'a Scheme, Matrix)>,
     counts: &mut Counts,
     told: &mut Vec<Told>,
-) {
+) -> Option<(&'a Scheme, Matrix)> {
     let mut behind = 0;
     for (request, (command, ids)) in case.direct.iter().enumerate() {
         let bytes = write_request(*command, ids).map_err(|number| Refused {
@@ -40,6 +41,7 @@ pub fn expect(
             told.push(ran(Call::RunDirect { request }, &[answer], &bytes, None));
         }
     }
+    matrix
 }
 
 /// At the start, at the end and past the end of the room, at a position that no buffer has, and behind the one before.

@@ -15,9 +15,18 @@ pub type Words = Vec<String>;
 /// At times an output is an input, or there was a file of its name.
 const OUTPUTS: [&str; 3] = ["after.bin", "old.bin", "matrix.bin"];
 
+/// The images to move.
+const OLD_IMAGE: &str = "old-image.bin";
+const NEW_IMAGE: &str = "new-image.bin";
+
 pub fn uses(seed: u64, number: u64) -> Vec<(Folder, Words)> {
     let case = case(seed, number);
     let mut files_now = files(&case);
+    for (name, image) in [(OLD_IMAGE, &case.old), (NEW_IMAGE, &case.new)] {
+        if !image.is_empty() {
+            files_now.insert(name.to_string(), image.clone());
+        }
+    }
     lengthen(&mut files_now, number);
     let after = OUTPUTS[number as usize % 3];
     let random = &mut Random::new(seed, number);
@@ -29,6 +38,8 @@ pub fn uses(seed: u64, number: u64) -> Vec<(Folder, Words)> {
         conversion(number),
         marking("hold", id(case.marks.first()), random),
         marking("release", id(case.marks.last()), random),
+        moving("forward", [OLD_IMAGE, NEW_IMAGE], random),
+        moving("back", [NEW_IMAGE, OLD_IMAGE], random),
     ];
     let mut uses: Vec<_> = words.map(|words| (files_now.clone(), words)).into();
     uses.push((files(&convertible(seed, number)), conversion(number)));
@@ -81,6 +92,17 @@ fn marking(tool: &str, id: u16, random: &mut Random) -> Words {
     in_words(&[tool, "scheme.bin", &matrix, &id, after])
 }
 
+/// The words for a move; at times it is given the other image, and at times the output is written under the image's name first.
+fn moving(tool: &str, [image, other]: [&str; 2], random: &mut Random) -> Words {
+    let after = *random.pick(&["after.bin", "old.bin", image, other]);
+    let image = match random.below(20) {
+        0 => format!("{after}.new"),
+        1 => other.to_string(),
+        _ => image.to_string(),
+    };
+    in_words(&[tool, "scheme.bin", &image, after])
+}
+
 /// Mostly the id as it is or with zeros in front; at times a number that is no thing's, or a word that is no id at all.
 fn id_word(id: u16, random: &mut Random) -> String {
     let wrong = ["", "-5", "+5", "5 ", "5x", "x", "0x5", "000005", "123456"];
@@ -100,7 +122,15 @@ fn lengthen(files: &mut Folder, number: u64) {
     if number % 10 != 7 {
         return;
     }
-    let name = ["scheme.bin", "matrix.bin", "requests.bin"][number as usize / 10 % 3];
-    let length = MOST_INPUT + number as usize / 30 % 2;
+    let names = [
+        "scheme.bin",
+        "matrix.bin",
+        "requests.bin",
+        OLD_IMAGE,
+        NEW_IMAGE,
+    ];
+    let turn = number as usize / 10;
+    let name = names[turn % names.len()];
+    let length = MOST_INPUT + turn / names.len() % 2;
     files.entry(name.to_string()).or_default().resize(length, 0);
 }

@@ -1,7 +1,7 @@
 //! How a task stands in the program's input: its number, the room, the position, and its bytes.
 
 use super::seats::Seat;
-use super::tasks::{Ask, At, Context, Read, SetCommand, Store, Stored, Task};
+use super::tasks::{Ask, At, Context, Read, Rest, SetCommand, Store, Stored, Task};
 
 /// The task's number, the room, the position, and its bytes.
 pub type Fields = (u8, u64, u64, Vec<u8>);
@@ -42,7 +42,7 @@ impl Task {
         }
     }
 
-    /// Those that change the matrix and are no request.
+    /// Those that change the matrix and are no request, and those that move one.
     fn of_matrix(&self) -> (u8, Vec<u8>) {
         match self {
             Task::ReadMatrix(bytes) => (10, bytes.clone()),
@@ -55,6 +55,9 @@ impl Task {
             Task::SetHighest(_) => (17, vec![]),
             Task::Hold(id) => (18, id.to_le_bytes().to_vec()),
             Task::Release(id) => (19, id.to_le_bytes().to_vec()),
+            Task::ReadRest(rest) => (100, rest.bytes()),
+            Task::Forward { old, .. } => (101, old.clone()),
+            Task::Back { new, .. } => (102, new.clone()),
             _ => self.asking(),
         }
     }
@@ -90,7 +93,9 @@ impl Task {
             | Task::ConvertScheme(room)
             | Task::WriteMatrix(room)
             | Task::WriteMatrixByHead(room)
-            | Task::ConvertMatrix(room) => *room,
+            | Task::ConvertMatrix(room)
+            | Task::Forward { room, .. }
+            | Task::Back { room, .. } => *room,
             _ => 0,
         }
     }
@@ -99,6 +104,7 @@ impl Task {
     fn at(&self) -> u64 {
         match self {
             Task::ReadCommand { at, .. } => *at,
+            Task::ReadRest(rest) => rest.at,
             Task::CommandAccepted(command) => *command,
             Task::PutThing { seat, .. } => *seat,
             Task::SetHighest(highest) => (*highest).into(),
@@ -130,6 +136,13 @@ impl Ask {
         let mut bytes = vec![self.command];
         bytes.extend(self.ids.iter().flat_map(|id| id.to_le_bytes()));
         bytes
+    }
+}
+
+impl Rest {
+    fn bytes(&self) -> Vec<u8> {
+        let stated = behind(&self.highest.to_le_bytes(), &[self.things]);
+        behind(&stated, &self.bytes)
     }
 }
 
@@ -173,6 +186,7 @@ impl Store {
             Stored::Front { kind, length } => {
                 (46, behind(&kind.to_le_bytes(), &length.to_le_bytes()))
             }
+            Stored::Bytes(bytes) => (47, bytes.clone()),
             Stored::Text(text) => (50, text.clone()),
             Stored::Decimal(number) => (51, number.to_le_bytes().to_vec()),
             Stored::Number(number, end) => (52, behind(&number.to_le_bytes(), &[*end])),

@@ -6,14 +6,15 @@ use super::planned::{located, planned, Spots};
 use super::said::{Given, Said};
 use super::seats::{Seats, CELLS};
 use super::sums;
-use super::tasks::{Ask, Task};
+use super::tasks::{Ask, Rest, Task};
 use super::values::{CommandValue, SchemeValue};
 use super::Case;
 use crate::answer::{list_bytes, Answer};
 use crate::convert::{convert_matrix, convert_scheme};
 use crate::engine::carry_out;
 use crate::hold::mark;
-use crate::matrix::{read_matrix, write_matrix, Matrix};
+use crate::matrix::{find_rest, read_matrix, write_matrix, Matrix, MOST_THINGS};
+use crate::moving::{back, forward, Moving};
 use crate::refusal::Refusal;
 use crate::request::{read_request, Next};
 use crate::scheme::{find_command, read_scheme, write_scheme, Scheme};
@@ -79,12 +80,12 @@ impl State {
                 self.scheme.commands[usize::from(*place)] = CommandValue::none();
                 Said::default().through("command_bytes::no_command", 0)
             }
-            _ => self.say_of_matrix(task, lent),
+            _ => self.say_of_readings(task, lent),
         }
     }
 
-    /// The tasks that change the matrix.
-    fn say_of_matrix(&mut self, task: &Task, lent: usize) -> Said {
+    /// The tasks that read a matrix.
+    fn say_of_readings(&mut self, task: &Task, lent: usize) -> Said {
         let said = Said::default();
         match task {
             Task::ReadMatrix(bytes) => {
@@ -95,6 +96,18 @@ impl State {
                 let answer = self.read_matrix(bytes, self.head(), lent);
                 said.reading("matrix_bytes::read_matrix_by_head", answer)
             }
+            Task::ReadRest(rest) => {
+                let answer = self.read_rest(rest, lent);
+                said.reading("matrix_bytes::read_rest", answer)
+            }
+            _ => self.say_of_matrix(task, lent),
+        }
+    }
+
+    /// The tasks that change the matrix otherwise.
+    fn say_of_matrix(&mut self, task: &Task, lent: usize) -> Said {
+        let said = Said::default();
+        match task {
             Task::ConvertedCells => {
                 let number = self.convert_cells(lent).err().unwrap_or(0);
                 said.gave("convert::converted_cells", number)
@@ -185,6 +198,21 @@ impl State {
                 write("convert::convert_matrix", self.converted(lent), room)
             }
             Task::Store(store) => Said::default().store(store),
+            _ => self.say_of_moves(task, lent),
+        }
+    }
+
+    /// The tasks that move an image; all others ask for something that isn't stored.
+    fn say_of_moves(&self, task: &Task, lent: usize) -> Said {
+        match task {
+            Task::Forward { old, room } => {
+                let moved = self.moved(old, forward);
+                Said::default().moving("moving::forward", moved, *room)
+            }
+            Task::Back { new, room } => {
+                let moved = self.moved(new, back);
+                Said::default().moving("moving::back", moved, *room)
+            }
             _ => asked::say(task, &self.scheme, &self.seats, lent),
         }
     }
@@ -239,6 +267,28 @@ impl State {
         }
         self.seats.read(&read_matrix(bytes, &scheme)?);
         Ok(bytes.len())
+    }
+
+    /// What is stated must be a position in the bytes or their end, and no more things than there can be.
+    fn read_rest(&mut self, rest: &Rest, lent: usize) -> Result<usize, Refusal> {
+        let stranger = Refusal { number: 27, at: 0 };
+        let head = self.head().map_err(|_| stranger)?;
+        let places = 0..=rest.bytes.len();
+        let at = usize::try_from(rest.at).ok();
+        let at = at.filter(|at| places.contains(at)).ok_or(stranger)?;
+        if usize::from(rest.things) > MOST_THINGS || lent != CELLS {
+            return Err(stranger);
+        }
+        let mut matrix = find_rest(&rest.bytes, at, &head, rest.things, rest.highest)?;
+        matrix.raise_highest(rest.highest);
+        self.seats.read(&matrix);
+        Ok(rest.bytes.len())
+    }
+
+    /// The other image, or 27.
+    fn moved(&self, image: &[u8], moving: Moving) -> Result<Vec<u8>, Refusal> {
+        let scheme = self.scheme().map_err(|number| Refusal { number, at: 0 })?;
+        moving(&scheme, image)
     }
 
     fn convert_scheme(&mut self) -> Result<(), u8> {

@@ -22,6 +22,11 @@ pub fn cases() -> Vec<Case> {
     cases
 }
 
+/// The key example with marks, whole and with what is refused, each with its label.
+pub fn of_key() -> Vec<(&'static str, Vec<u8>)> {
+    changed_rows(&KEY_MATRIX, &[HELD, REFUSED].concat())
+}
+
 // ---- whole matrices: things at 8, 15 and 22, so that their kinds stand at 10, 17 and 24; those of the cells at 31 and 47
 
 /// On hold are the second of the things, the two others, and all.

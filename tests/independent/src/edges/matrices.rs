@@ -156,7 +156,7 @@ pub fn of_key() -> Vec<(&'static str, Vec<u8>)> {
 }
 
 /// The key example's image of before, whose head has no highest id; and the same with kind 7, so that its body is too short.
-fn of_before() -> Vec<(&'static str, Vec<u8>)> {
+pub fn of_before() -> Vec<(&'static str, Vec<u8>)> {
     let behind = |head: [u8; 6]| [&head, &KEY_MATRIX[8..]].concat();
     vec![
         ("image-of-before", behind([2, 0, 3, 0, 4, 3])),
@@ -176,7 +176,7 @@ fn readings(label: &str, bytes: Vec<u8>) -> [Case; 2] {
 
 /// A table that no reading gives, with things on hold whose ids are above the highest: a reading that is refused must leave it so, and one that isn't
 /// must leave nothing of it.
-fn spoiled(label: &str) -> Vec<Case> {
+pub fn spoiled(label: &str) -> Vec<Case> {
     let thing = |seat, id, kind| {
         let thing = Seat::of(id, kind).on_hold();
         let task = Task::PutThing { seat, thing };

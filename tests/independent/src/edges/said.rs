@@ -91,6 +91,25 @@ impl Said {
         said.word(sums::bytes(&out))
     }
 
+    /// An image moved into a lent buffer: the number and the position, then how many bytes were written if they were; then the buffer's sum.
+    pub fn moving(
+        self,
+        function: &'static str,
+        moved: Result<Vec<u8>, Refusal>,
+        room: u64,
+    ) -> Said {
+        let mut out = sums::pattern(room);
+        let stored = moved.and_then(|bytes| {
+            let stored = crate::bytes::store(&bytes, &mut out);
+            stored.map_err(|number| Refusal { number, at: 0 })
+        });
+        let said = match stored {
+            Ok(count) => self.gave(function, 0).word(0).word(count),
+            Err(Refusal { number, at }) => self.gave(function, number).word(at),
+        };
+        said.word(sums::bytes(&out))
+    }
+
     fn written(self, function: &'static str, next: u64) -> Said {
         let said = self.through(function, 0);
         said.gave("records::Writing::number", 0).word(next)
@@ -110,6 +129,7 @@ impl Said {
                 let zeros = vec![0; *length as usize];
                 self.writing(function, record(*kind, &zeros), *at, *room)
             }
+            Stored::Bytes(bytes) => self.writing(function, Ok(bytes.clone()), *at, *room),
             Stored::One(value) => self.put(store, *at, &[*value]),
             Stored::Two(value) => self.put(store, *at, &value.to_le_bytes()),
             Stored::Eight(value) => self.put(store, *at, &value.to_le_bytes()),
@@ -145,6 +165,7 @@ impl Stored {
         match self {
             Stored::Request(_) => "request_bytes::write_request",
             Stored::Record { .. } | Stored::Zeros { .. } => "records::write_record",
+            Stored::Bytes(_) => "records::write_bytes",
             Stored::One(_) => "records::put1",
             Stored::Two(_) => "records::put2",
             Stored::Eight(_) => "records::put8",

@@ -13,16 +13,8 @@ use crate::scheme::{read_scheme, write_scheme, Command, Operation, Scheme, Test}
 type Stranger = (String, Vec<Task>);
 
 pub fn cases() -> Vec<Case> {
-    let schemes = [
-        heads(),
-        counts(),
-        behind_lists(),
-        behind_commands(),
-        forms(),
-    ]
-    .concat();
     let mut cases = Vec::new();
-    for (label, tasks) in schemes {
+    for (label, tasks) in schemes() {
         cases.extend(made(&label, tasks));
         cases.extend(asked_of_scheme(&label));
     }
@@ -79,6 +71,17 @@ fn made(label: &str, tasks: Vec<Task>) -> Vec<Case> {
 }
 
 // ---- schemes
+
+pub fn schemes() -> Vec<Stranger> {
+    [
+        heads(),
+        counts(),
+        behind_lists(),
+        behind_commands(),
+        forms(),
+    ]
+    .concat()
+}
 
 fn stranger(label: &str, tasks: Vec<Task>) -> Stranger {
     (format!("27-{label}"), tasks)

@@ -22,6 +22,8 @@ pub enum Task {
     NoCommand(u8),
     ReadMatrix(Vec<u8>),
     ReadMatrixByHead(Vec<u8>),
+    /// Against the scheme's head, as the one before.
+    ReadRest(Rest),
     /// The cells are converted where they lie.
     ConvertedCells,
     /// Up to four sets are copied over the cells from a place on.
@@ -58,6 +60,16 @@ pub enum Task {
     WriteMatrix(u64),
     WriteMatrixByHead(u64),
     ConvertMatrix(u64),
+    /// An old image is turned into a new one.
+    Forward {
+        old: Vec<u8>,
+        room: u64,
+    },
+    /// A new image is turned into an old one.
+    Back {
+        new: Vec<u8>,
+        room: u64,
+    },
     Store(Store),
     /// What of the head, the scheme and the matrix is accepted.
     Accepted,
@@ -120,6 +132,15 @@ pub struct SetCommand {
 pub struct Ask {
     pub command: u8,
     pub ids: Vec<u16>,
+}
+
+/// What stands behind a matrix's head, from a position of some bytes on: so many things with ids up to the highest, then cells.
+#[derive(Clone, Debug, PartialEq, Eq)]
+pub struct Rest {
+    pub highest: u16,
+    pub things: u8,
+    pub bytes: Vec<u8>,
+    pub at: u64,
 }
 
 /// What stands at a position of some bytes.
@@ -192,6 +213,8 @@ pub enum Stored {
         kind: u16,
         length: u16,
     },
+    /// As they are, with no front; unlike a text, refused where they don't fit.
+    Bytes(Vec<u8>),
     Text(Vec<u8>),
     Decimal(u64),
     /// A number and the byte behind it.

@@ -88,9 +88,12 @@ fn spoil_held(random: &mut Random, bytes: &mut Vec<u8>, thing: Span) {
     match random.below(6) {
         0 => put_value(bytes, id, 0),
         1 => {
-            let highest = named(&fields(bytes), &["highest"])[0];
+            // An old image tells no highest id.
+            let highest = named(&fields(bytes), &["highest"]);
             let lower = value(bytes, id) - 1;
-            put_value(bytes, highest, lower);
+            if let Some(&highest) = highest.first() {
+                put_value(bytes, highest, lower);
+            }
         }
         2 => bytes[id.at + 2] = *random.pick(&[16, 255]),
         3 => shorten(bytes, thing, random.from_to(1, 3)),

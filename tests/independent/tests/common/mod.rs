@@ -18,6 +18,12 @@ pub const KEY_MATRIX: &str = "04 00 07 00 04 03 0C 00 / \
     0C 00 05 00 05 00 09 00 01 00 00 00 00 00 00 00 / \
     0C 00 05 00 09 00 0C 00 02 00 00 00 00 00 00 00";
 
+/// The same as an old image, which tells no highest id; written by hand.
+pub const OLD_KEY_MATRIX: &str = "02 00 03 00 04 03 / \
+    03 00 04 00 05 00 00 / 03 00 04 00 09 00 01 / 03 00 04 00 0C 00 02 / \
+    0C 00 05 00 05 00 09 00 01 00 00 00 00 00 00 00 / \
+    0C 00 05 00 09 00 0C 00 02 00 00 00 00 00 00 00";
+
 pub const RETIRE: usize = 0;
 pub const LOAD: usize = 1;
 

@@ -81,8 +81,8 @@ returns-3 c =
     let e = head-stopped _ _ _ (r .read-head .ensures ∙ head-opened _ _ _ _ (from-true (ok (r .before)))) _ _ _ _ (t .enum-told .given .1) (a .before .number .ensures) (a .at .ensures) in
     matrix-no-head _ _ _ _ (ok (r .before)) (room (r .before)) _ _ _ (c .refused3 .ensures) e
 
-read-rest-requires : tie.Need-read-rest-requires
-read-rest-requires c κs =
+rest-of-requires : tie.Need-rest-of-requires
+rest-of-requires c κs =
     let k = c .before in
     let p = passed-at k in
     let (few, near) = head-few _ _ (head-sized _ (from-true (ok p))) (bytes p) _ _ (head-is k) in
@@ -96,7 +96,7 @@ returns-4 c =
     let f = c .before .before in
     let k = f .before .before in
     let p = passed-at k in
-    matrix-rest _ _ _ _ (ok p) (room p) _ _ _ (head-is k) _ (f .read-rest .ensures)
+    matrix-rest _ _ _ _ (ok p) (room p) _ _ _ (head-is k) _ (f .rest-of .ensures)
 
 pub read-matrix-by-head-spec : {M : Type 1} → statement M
 read-matrix-by-head-spec =
@@ -114,6 +114,6 @@ read-matrix-by-head-spec =
     at-requires
     refused-requires-3
     returns-3
-    read-rest-requires
+    rest-of-requires
     same-length
     returns-4)

@@ -1,88 +1,75 @@
--- `matrix_bytes::read::read_rest` meets its contract: the things, and then the cells where these end.
+-- `matrix_bytes::read::read_rest` meets its contract: 27, then what stands behind a head.
 -- Assumes nothing.
-use Prim.Native.Nat.{_≤_}
-use mathlib.Core.List.{List}
-use mathlib.Core.Path.{_≡_}
-use lib.ListN.{length}
+use native.Mathlib.Omega.{arith}
+use mathlib.Core.Path.{sym, _∙_}
 use borrow.Author.Needs.{needs}
-use Rattle.matrix_records.proofs.Trips.{head-sized}
-use Rattle.matrix_records.specs.Content.{ThingRecord}
-use Rattle.records.proofs.Trip.{Bytes}
-use Rattle.records.specs.Reading.{got}
-use Rattle.matrix_bytes.specs.Content.{thingsFrom}
-use Rattle.matrix_bytes.proofs.ReadMatrix.{rest-no-things, rest-done}
-use Rattle.matrix_bytes.proofs.ReadThings.{thingsRead, things-good, things-bad, things-end}
+use borrow.Author.Tests.{not-true, not-false}
+use Rattle.laws.proofs.Bools.{from-true}
+use Rattle.matrix_bytes.proofs.ReadMatrix.{rest-refused, rest-opened}
 use Rattle.matrix_bytes.proofs.read.read_rest.Statement.{statement}
 use Rattle.matrix_bytes.proofs.read.read_rest.Tie as tie
-
--- from what is known once the things are read back to the start
-abbrev start : tie.After-known-told → tie.Start
-start c = c .before .before .before .before .before .before .before
-
-bytes : (c : tie.After-known-told) → Bytes (start c .args .s .now)
-bytes c = λ i. c .before .before .before .before .before .before .shared-slice-known .given i .fits
-
-things-are : (c : tie.After-known-told) → let a = start c .args in
-    (ts : List ThingRecord) × (thingsRead (a .s .now) (a .h) (a .highest) (a .count) (a .at) ≡ got ts (c .before .answer .given .0 .0)) ×
-    (c .before .before .before .before .read-things .result .things ≡ thingsFrom (a .highest) ts)
-things-are c = let f = c .before in things-good _ _ _ (f .before .before .before .read-things .ensures) _ (f .answer .given .1)
-
-read-things-requires : tie.Need-read-things-requires
-read-things-requires c κs = search needs
-
-enum-known-answer : tie.Need-enum-known-answer
-enum-known-answer c = search needs
-
-enum-told : tie.Need-enum-told
-enum-told c = search needs
-
-number-requires : tie.Need-number-requires
-number-requires c κs = search needs
-
-at-requires : tie.Need-at-requires
-at-requires c κs = search needs
 
 refused-requires : tie.Need-refused-requires
 refused-requires c κs = search needs
 
 returns : tie.Need-returns
-returns c =
-    let a = c .before in
-    let t = a .before .before in
-    let r = t .before .before .before in
-    let e = things-bad _ _ _ (r .read-things .ensures) _ _ _ _ (t .enum-told .given .1) (a .before .number .ensures) (a .at .ensures) in
-    rest-no-things _ _ _ _ _ _ _ _ _ _ (c .refused .ensures) e
+returns c = rest-refused _ _ _ _ _ _ _ (λ (ok, few, near, room). c .before .if1 .taken room) _ (c .refused .ensures)
 
-finish-requires : tie.Need-finish-requires
-finish-requires c κs =
-    let d = c .before in
-    let a = start d .args in
-    let (ok, few, near, room) = start d .pre in
-    let (ts, g, t) = things-are d in
-    (ok, things-end (a .s .now) _ (head-sized _ ok) (bytes d) (a .highest) (a .count) _ near ts _ g .2, room)
+refused-requires-2 : tie.Need-refused-requires-2
+refused-requires-2 c κs = search needs
+
+returns-2 : tie.Need-returns-2
+returns-2 c = rest-refused _ _ _ _ _ _ _ (λ (ok, few, near, room). omega (arith, c .before .if2 .taken)) _ (c .refused2 .ensures)
+
+refused-requires-3 : tie.Need-refused-requires-3
+refused-requires-3 c κs = search needs
+
+returns-3 : tie.Need-returns-3
+returns-3 c = rest-refused _ _ _ _ _ _ _ (λ (ok, few, near, room). omega (arith, c .before .if3 .taken)) _ (c .refused3 .ensures)
+
+head-accepted-requires : tie.Need-head-accepted-requires
+head-accepted-requires c κs = search needs
+
+refused-requires-4 : tie.Need-refused-requires-4
+refused-requires-4 c κs = search needs
+
+returns-4 : tie.Need-returns-4
+returns-4 c =
+    let i = c .before in
+    let e = sym (i .before .head-accepted .ensures) ∙ not-true _ (i .if4 .taken) in
+    rest-refused _ _ _ _ _ _ _ (λ (ok, few, near, room). rw e at ok) _ (c .refused4 .ensures)
+
+rest-of-requires : tie.Need-rest-of-requires
+rest-of-requires c κs =
+    let i = c .before in
+    let k = i .before .before in
+    (from-true (sym (i .before .head-accepted .ensures) ∙ not-false _ (i .if4 .left)), k .if3 .left, k .before .if2 .left, k .before .before .if1 .left)
 
 same-length : tie.Need-same-length
 same-length c = search needs
 
-returns-2 : tie.Need-returns-2
-returns-2 c =
-    let f = c .before .before in
-    let d = f .before .before in
-    let (ok, few, near, room) = start d .pre in
-    let (ts, g, t) = things-are d in
-    rest-done _ _ _ _ _ _ _ ts _ g ok (bytes d) few near _ t _ (f .finish .ensures)
+returns-5 : tie.Need-returns-5
+returns-5 c =
+    let r = c .before .before in
+    let i = r .before .before in
+    let k = i .before .before in
+    r .rest-of .ensures
+    ∙ sym (rest-opened _ _ _ _ _ _ _
+    (from-true (sym (i .before .head-accepted .ensures) ∙ not-false _ (i .if4 .left)), k .if3 .left, k .before .if2 .left, k .before .before .if1 .left))
 
 pub read-rest-spec : {M : Type 1} → statement M
 read-rest-spec =
     tie.close
     (tie.spec
-    read-things-requires
-    enum-known-answer
-    enum-told
-    number-requires
-    at-requires
     refused-requires
     returns
-    finish-requires
+    refused-requires-2
+    returns-2
+    refused-requires-3
+    returns-3
+    head-accepted-requires
+    refused-requires-4
+    returns-4
+    rest-of-requires
     same-length
-    returns-2)
+    returns-5)

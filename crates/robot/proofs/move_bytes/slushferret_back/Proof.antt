@@ -1,0 +1,78 @@
+-- A scheme is read, then a new image is moved back against it.
+-- Assumes nothing.
+use Rattle.robot.specs.Library.{givesWrote, notWritten, moved, backBytes}
+use Rattle.robot.proofs.CallLaws.{scheme-read, scheme-refused, not-written, told-moved}
+use Rattle.moving.specs.Answers.{backInto}
+use borrow.Author.Needs.{needs}
+use Rattle.robot.proofs.move_bytes.slushferret_back.Statement.{statement}
+use Rattle.robot.proofs.move_bytes.slushferret_back.Tie as tie
+
+scheme-of-requires : tie.Need-scheme-of-requires
+scheme-of-requires c κs = search needs
+
+enum-told : tie.Need-enum-told
+enum-told c = search needs
+
+enum-told-2 : tie.Need-enum-told-2
+enum-told-2 c = search needs
+
+number-requires : tie.Need-number-requires
+number-requires c κs = search needs
+
+at-requires : tie.Need-at-requires
+at-requires c κs = search needs
+
+tell-requires : tie.Need-tell-requires
+tell-requires c κs = search needs
+
+same-length : tie.Need-same-length
+same-length c = search needs
+
+returns : tie.Need-returns
+unfolding backBytes
+returns c =
+    let t = c .before .before in
+    let n = t .before .before in
+    let e = n .before .before in
+    let r = e .before .before in
+    scheme-refused (givesWrote _) (notWritten _) (λ s n. moved (backInto _ s _)) _ _ (r .scheme-of .ensures) _ _ (e .enum-told2 .given .1)
+    _ _ (n .number .ensures) (t .before .at .ensures) (not-written _ _ _ _ _ _ _ (t .tell .ensures))
+
+back-requires : tie.Need-back-requires
+back-requires c κs = search needs
+
+tell-moving-requires : tie.Need-tell-moving-requires
+tell-moving-requires c κs = search needs
+
+same-length-2 : tie.Need-same-length-2
+same-length-2 c = search needs
+
+same-length-3 : tie.Need-same-length-3
+same-length-3 c = search needs
+
+returns-2 : tie.Need-returns-2
+unfolding backBytes
+returns-2 c =
+    let t = c .before .before in
+    let w = t .before .before .before .before in
+    let e = w .before .before .before in
+    scheme-read (givesWrote _) (notWritten _) (λ s n. moved (backInto _ s _)) _ _ (e .before .before .scheme-of .ensures) _ (e .enum-told .given .1)
+    (told-moved _ _ _ _ _ _ (w .back .ensures) (t .tell-moving .ensures))
+
+pub slushferret-back-spec : {M : Type 1} → statement M
+slushferret-back-spec =
+    tie.close
+    (tie.spec
+    scheme-of-requires
+    enum-told
+    enum-told-2
+    number-requires
+    at-requires
+    tell-requires
+    same-length
+    returns
+    back-requires
+    tell-moving-requires
+    same-length-2
+    same-length-3
+    returns-2)
