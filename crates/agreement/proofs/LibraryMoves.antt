@@ -12,7 +12,6 @@ use lib.Dec.{T, eqb, leb}
 use lib.ListN.{length}
 use borrow.Author.Tests.{eq-eqb, leb-true}
 use Rattle.laws.proofs.Bools.{is-true, or-right}
-use Rattle.laws.proofs.Differ.{constructors-differ}
 use Rattle.model.specs.Accepted.{acceptedScheme}
 use Rattle.model.specs.Arrays.{noScheme}
 use Rattle.model.specs.Seats.{Matrix, noThings}
@@ -27,13 +26,11 @@ use Rattle.records.specs.declared.Writing.{Writing}
 use Rattle.records.specs.declared.Writing.the-variants as writing
 use Rattle.records.proofs.Faults.{fine}
 use Rattle.records.proofs.PlacedLaws.{take-through-placed}
-use Rattle.records.proofs.Wrote.{pair-eq}
 use Rattle.scheme_bytes.specs.Answers.{readScheme}
-use Rattle.matrix_bytes.specs.Answers.{asMatrix, readMatrix}
+use Rattle.matrix_bytes.specs.Answers.{readMatrix}
 use Rattle.matrix_bytes.specs.Read.{matrix}
-use Rattle.matrix_bytes.specs.declared.answers.MatrixAnswer.{MatrixAnswer}
-use Rattle.moving.specs.Answers.{byWriting, asMoved, forwardInto, backInto}
-use Rattle.moving.specs.Answers as moving
+use Rattle.matrix_bytes.proofs.FunctionTrips.{read-got}
+use Rattle.moving.specs.Answers.{afterWriting, byWriting, asMoved, forwardInto, backInto}
 use Rattle.moving.specs.Moves.{oldImage, forward, back}
 use Rattle.moving.specs.Old.{highestListed}
 use Rattle.moving.specs.declared.answers.Moved.{Moved}
@@ -144,44 +141,29 @@ placed-whole bytes out room m done w is = rw (is, done) (refl, rw zero-add at (t
 
 -- ---- 23
 
--- bytes that a call reads as a matrix are read so against the scheme's head
-matrix-got : (bytes : List ℕ) (s : Scheme) (m : Matrix) → T (acceptedScheme s) → IsMatrix bytes s m → matrix (s .head) bytes 0 ≡ got m (length bytes)
-unfolding readMatrix
-matrix-got bytes s m ok is = by (matrix (s .head) bytes 0) (rw (is-true (acceptedScheme s) ok) at is)
-  where
-    by : (r : Read ℕ Refusal Matrix) →
-        _≡_ {A = MatrixAnswer × List ℕ} (asMatrix noThings empty r) (record { answer = reading.Done (length bytes); things = m .things }, m .cells) →
-        r ≡ got m (length bytes)
-    by (got n end) e =
-        let (p, cells) = pair-eq e in
-        let things : n .things ≡ m .things = ap (λ (a : MatrixAnswer). a .things) p in
-        let answer = ap (λ (a : MatrixAnswer). a .answer) p in
-        let size : end ≡ length bytes = cc in
-        let same : n ≡ m = λ i. record { things = things i; cells = cells i } in
-        rw (same, size)
-    by (fault f) e = let answer = ap (λ (a : MatrixAnswer). a .answer) (pair-eq e .0) in constructors-differ (cc)
-
 -- a writing's own number is told of the move
-writing-differs : (n : ℕ) (w : Writing) → T (isnt n (ofWriting w .number)) → movingBy (moving.ofWriting w) .number ≢ n
+writing-differs : (n : ℕ) (w : Writing) → T (isnt n (ofWriting w .number)) → movingBy (afterWriting w) .number ≢ n
 writing-differs n (writing.Done next) = differs n 0
 writing-differs n (writing.Refused k) = differs n k
 
-module _ (scheme new out : List ℕ) (s : Scheme) (m : Matrix) (small : Bytes scheme) (isScheme : IsScheme scheme s) (isMatrix : IsMatrix new s m) where
-  ok : T (acceptedScheme s)
-  ok = scheme-held scheme small s isScheme
-
-  read : matrix (s .head) new 0 ≡ got m (length new)
-  read = matrix-got new s m ok isMatrix
+module _ (scheme new out : List ℕ) (s : Scheme) (m : Matrix) (isScheme : IsScheme scheme s) (isMatrix : IsMatrix new s m) where
+  -- bytes that a call reads as a matrix are read so against an accepted scheme's head
+  held : T (acceptedScheme s) × (matrix (s .head) new 0 ≡ got m (length new))
+  unfolding readMatrix
+  held =
+      read-got (acceptedScheme s) (eqb (length empty) 2304) (matrix (s .head) new 0) noThings empty (length new) (m .things) (m .cells) isMatrix
 
   highest-lost : m .things .highest ≢ highestListed (m .things) → backBytes scheme new out ≡ notWritten out 23 2 0
   unfolding backInto
   highest-lost other =
+      let (ok, read) = held in
       back-call scheme s isScheme new out ∙ rw (is-true (acceptedScheme s) ok, moves-keep s ok .refused new m (length new) read other)
 
   -- what may still refuse it is 9
   highest-kept : m .things .highest ≡ highestListed (m .things) → backBytes scheme new out .called .number ≢ 23
   unfolding backInto
   highest-kept same =
+      let (ok, read) = held in
       rw (back-call scheme s isScheme new out, is-true (acceptedScheme s) ok, moves-keep s ok .taken new m (length new) read same)
       (writing-differs 23 (writeBytes out 0 (oldImage new) .0) (bytes-written (isnt 23) tt tt out 0 (oldImage new)))
 

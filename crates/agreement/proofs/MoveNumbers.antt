@@ -17,8 +17,7 @@ use Rattle.records.proofs.Faults.{fine, Only, only-then, only-next, only-check,
 use Rattle.matrix_bytes.specs.Read.{matrix}
 use Rattle.moving.specs.Old.{oldHead, oldContent, highestListed, oldMatrix}
 use Rattle.moving.specs.Moves.{forward, back}
-use Rattle.moving.specs.Answers.{asMoved, forwardInto, backInto, ofMoved}
-use Rattle.moving.specs.Answers as moving
+use Rattle.moving.specs.Answers.{afterWriting, asMoved, forwardInto, backInto, ofMoved}
 use Rattle.moving.specs.declared.answers.Moved.{Moved}
 use Rattle.moving.specs.declared.answers.Moved.the-variants.{Done, Refused}
 use Rattle.robot.specs.Library.{movingBy}
@@ -58,7 +57,7 @@ module _ (ok : ℕ → Bool) (one : T (ok 1)) (two : T (ok 2)) (three : T (ok 3)
       only-next told (check same refusal) _ (only-check told same refusal lost) (λ i. tt)) 0
 
 -- ---- what is then written, and what the library tells of it
-written : (ok : ℕ → Bool) (w : Writing) → T (ok (ofWriting w .number)) → T (ok (ofMoved (moving.ofWriting w) .number))
+written : (ok : ℕ → Bool) (w : Writing) → T (ok (ofWriting w .number)) → T (ok (ofMoved (afterWriting w) .number))
 written ok (writing.Done next) t = t
 written ok (writing.Refused k) t = t
 

@@ -35,7 +35,7 @@ written c = getD (c .report) 3 0
 abbrev pub besidesWritten : Called → List ℕ × List ℕ
 besidesWritten c = (take 3 (c .report), drop 4 (c .report))
 
--- the bytes that a conversion, a hold or a release wrote, and those of the matrix that a run left
+-- the bytes that a conversion, a hold, a release or a move wrote, and those of the matrix that a run left
 unfoldable pub writtenBytes : Wrote → List ℕ
 writtenBytes w = take (written (w .called)) (w .out)
 

@@ -33,9 +33,9 @@ pub record LibraryMoves : Type 0 where
   pub backAndThere : (scheme new out out′ : List ℕ) → Bytes scheme → Bytes new → backBytes scheme new out .called .number ≡ 0 → length new ≤ length out′ →
       let r = forwardBytes scheme (writtenBytes (backBytes scheme new out)) out′ in (r .called .number ≡ 0) × (writtenBytes r ≡ new)
   -- 23 exactly where the highest would be lost, in the image that was handed in, at 0, whatever room there is;
-  pub lost : (scheme new out : List ℕ) (s : Scheme) (m : Matrix) → Bytes scheme → IsScheme scheme s → IsMatrix new s m → m .things .highest ≢ highestListed (m .things) →
+  pub lost : (scheme new out : List ℕ) (s : Scheme) (m : Matrix) → IsScheme scheme s → IsMatrix new s m → m .things .highest ≢ highestListed (m .things) →
       backBytes scheme new out ≡ notWritten out 23 2 0
-  pub kept : (scheme new out : List ℕ) (s : Scheme) (m : Matrix) → Bytes scheme → IsScheme scheme s → IsMatrix new s m → m .things .highest ≡ highestListed (m .things) →
+  pub kept : (scheme new out : List ℕ) (s : Scheme) (m : Matrix) → IsScheme scheme s → IsMatrix new s m → m .things .highest ≡ highestListed (m .things) →
       backBytes scheme new out .called .number ≢ 23
   -- and never on the way forward.
   pub onlyBack : (scheme old out : List ℕ) → forwardBytes scheme old out .called .number ≢ 23

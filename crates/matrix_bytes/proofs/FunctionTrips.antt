@@ -27,7 +27,7 @@ use Rattle.laws.proofs.Differ.{constructors-differ}
 
 -- ---- read, then written
 -- what was read was done against an accepted scheme
-read-got : (accepted room : Bool) (r : Read ℕ Refusal Matrix) (things : Things) (cells : List ℕ) (next : ℕ) (th : Things) (new : List ℕ) →
+pub read-got : (accepted room : Bool) (r : Read ℕ Refusal Matrix) (things : Things) (cells : List ℕ) (next : ℕ) (th : Things) (new : List ℕ) →
     _≡_ {A = MatrixAnswer × List ℕ} (cond (accepted && room) (asMatrix things cells r) (record { answer = Refused 27 0; things = things }, cells))
     (record { answer = Done next; things = th }, new) → T accepted × (r ≡ got (record { things = th; cells = new }) next)
 read-got true true (got m n) things cells next th new e =

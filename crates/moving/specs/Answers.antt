@@ -15,12 +15,12 @@ use Rattle.moving.specs.declared.answers.Moved.{Moved}
 use Rattle.moving.specs.declared.answers.Moved.the-variants.{Done, Refused}
 
 -- 9 is at no position of the image
-abbrev pub ofWriting : Writing → Moved
-ofWriting (writing.Done n) = Done n
-ofWriting (writing.Refused k) = Refused k 0
+abbrev pub afterWriting : Writing → Moved
+afterWriting (writing.Done n) = Done n
+afterWriting (writing.Refused k) = Refused k 0
 
 abbrev pub byWriting : Writing × List ℕ → Moved × List ℕ
-byWriting w = (ofWriting (w .0), w .1)
+byWriting w = (afterWriting (w .0), w .1)
 
 abbrev pub asMoved : List ℕ → Read ℕ Refusal (List ℕ) → Moved × List ℕ
 asMoved out (got image end) = byWriting (writeBytes out 0 image)

@@ -43,7 +43,7 @@ abbrev pub StopsAtHold : Head → List ℕ → Type 0
 StopsAtHold h s = (at : ℕ) × (baseMatrix h s 0 ≡ fault (record { number = 2; at = at })) × (kindAt s at ≡ 8)
 
 pub record BaseReads (h : Head) (s : List ℕ) : Type 0 where
-  -- The two readings are the same, refusals and positions included, but where the base meets a thing on hold.
+  -- The two readings are the same, refusals and positions included, but where the base meets a record of kind 8.
   pub same : (baseMatrix h s 0 ≡ oldMatrix h s 0) ⊎ StopsAtHold h s
   -- Where no thing is on hold, the base reads what is read here;
   pub unmarked : (m : Matrix) (end : ℕ) → oldMatrix h s 0 ≡ got m end → ((i : ℕ) → getD (m .things .marks) i false ≡ false) → baseMatrix h s 0 ≡ got m end

@@ -1,5 +1,4 @@
--- Moving stored matrices: what is promised of both ways. An image is read against the scheme that it was stored for, whatever that is; the proof stands in
--- proofs/.
+-- Moving stored matrices: what is promised of both ways, against any accepted scheme; the proof stands in proofs/.
 -- Assumes nothing.
 use Prim.Native.Nat.{ℕ, _<_}
 use mathlib.Core.Path.{_≡_}
