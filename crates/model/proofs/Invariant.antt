@@ -95,5 +95,5 @@ module _ {M : Type 0} (R : M → State → Type 0) where
     run_agree m p [] r = (refl, r)
     run_agree m p (q ∷ qs) r =
         let k : Agree R (step view s m q) (step papers s' p q) = keeps m p q r in
-        let (same, related) = run_agree _ _ qs (agree_after m p _ _ r k) in
+        let (same, related) = run_agree (after m (step view s m q)) (after p (step papers s' p q)) qs (agree_after m p _ _ r k) in
         (ap₂ (λ (x : Answer) (xs : List Answer). x ∷ xs) (agree_answer _ _ k) same, related)

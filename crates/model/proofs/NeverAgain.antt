@@ -153,7 +153,7 @@ rises_after m xs (refused r) h rest up = up
 run_rises : (s : Scheme) (m : State) (qs : List Request) → T (rises_from m.things.highest (created_in papers s m qs))
 unfolding created_in created_by step
 run_rises s m [] = unfold rises_from in tt
-run_rises s m (q ∷ qs) = rises_after m _ _ (rises_command m q (get_elem? (commands_of s) q.command)) _ (run_rises s _ qs)
+run_rises s m (q ∷ qs) = rises_after m _ _ (rises_command m q (get_elem? (commands_of s) q.command)) _ (run_rises s (after m (step papers s m q)) qs)
 
 -- ---- the theorem
 
