@@ -1,0 +1,25 @@
+-- `records::put_bytes` meets its contract: after j turns, what is left to store is what remains of the bytes.
+-- Assumes nothing.
+use Prim.Native.Nat.{◌+◌, ◌-◌, ◌≤◌}
+use native.Mathlib.Omega.{arith}
+use native.Mathlib.Nat.{add-zero}
+use mathlib.Core.Path.{◌≡◌, refl, sym, ◌∙◌}
+use lib.ListN.{length, drop, length-set}
+use lib.Seq.{sets}
+use borrow.Author.Rules.{rules}
+use Rattle.records.proofs.BytesLaws.{sets_next, sets_all}
+use Rattle.records.proofs.put_bytes.Goals as goal
+
+pub loop-j-init : goal.loop-j-init
+loop-j-init c = (omega arith, refl, rw add-zero)
+
+pub loop-j-preserved : goal.loop-j-preserved
+loop-j-preserved c =
+    let l = c.loop-j in
+    (omega arith, simp length-set l.invariant.1, l.invariant.2 ∙ sets_next _ _ _ _ c.loop-j-test.true)
+
+pub shape_of-part : goal.shape_of-part
+shape_of-part c = c.loop-j.invariant.1
+
+pub returns : goal.returns
+returns c = sym (c.loop-j.invariant.2 ∙ sets_all _ _ _ _ c.loop-j-test.false)

@@ -1,0 +1,17 @@
+-- `records::put_bytes` meets its contract: after j turns, what is left to store is what remains of the bytes.
+-- Assumes nothing.
+use Prim.Native.Nat.{◌+◌, ◌-◌, ◌≤◌}
+use native.Mathlib.Omega.{arith}
+use native.Mathlib.Nat.{add-zero}
+use mathlib.Core.Path.{◌≡◌, refl, sym, ◌∙◌}
+use lib.ListN.{length, drop, length-set}
+use lib.Seq.{sets}
+use borrow.Author.Rules.{rules}
+use Rattle.records.proofs.BytesLaws.{sets_next, sets_all}
+use Rattle.records.proofs.put_bytes.Given as goal
+
+abbrev pub invariant-loop-j : goal.invariant-loop-j
+invariant-loop-j l = (l.j ≤ length l.bytes) × (length l.part ≡ length l.initial.part) × (sets l.initial.part l.i l.bytes ≡ sets l.part (l.i + l.j) (drop l.j l.bytes))
+
+abbrev pub decreases-loop-j : goal.decreases-loop-j
+decreases-loop-j l = length l.bytes - l.j
