@@ -4,7 +4,7 @@ ghost use Rattle.laws.specs.Check.{◌or_else◌, must, between};
 ghost use Rattle.accepted.specs.Answers.{as_checked, of_checked};
 ghost use Rattle.accepted.specs.Inner.Parts.{fault_of};
 
-#[derive(Drop)]
+#[derive(Clone, Copy)]
 pub enum Checked {
     Fine,
     Fault(u8),

@@ -8,21 +8,21 @@ use records::Reading;
 use rights::{Parameter, Right};
 
 // The head and the position behind its record; or the refusal's number with the record's position.
-#[derive(Drop)]
+#[derive(Clone, Copy)]
 pub enum HeadAt {
     Good { head: Head, next: usize },
     Refused { number: u8, at: usize },
 }
 
 // Where the reading ended, and the command; where it was refused, one with nothing in it.
-#[derive(Drop)]
+#[derive(Clone, Copy)]
 pub struct CommandAnswer {
     pub answer: Reading,
     pub command: Command,
 }
 
 // What a test names behind its sense, and an operation behind its code.
-#[derive(Drop)]
+#[derive(Clone, Copy)]
 pub enum NamedAnswer {
     Good {
         right: Right,
@@ -32,38 +32,38 @@ pub enum NamedAnswer {
     Fault(u8),
 }
 
-#[derive(Drop)]
+#[derive(Clone, Copy)]
 pub enum TestAnswer {
     Good(Test),
     Fault(u8),
 }
 
-#[derive(Drop)]
+#[derive(Clone, Copy)]
 pub enum OperationAnswer {
     Good(Operation),
     Fault(u8),
 }
 
 // A list was read to its end, or a fault stopped it.
-#[derive(Drop)]
+#[derive(Clone, Copy)]
 pub enum Walk {
     Whole,
     Fault(u8),
 }
 
-#[derive(Drop)]
+#[derive(Clone, Copy)]
 pub struct TypesRead {
     pub answer: Walk,
     pub parameters: Parameters,
 }
 
-#[derive(Drop)]
+#[derive(Clone, Copy)]
 pub struct TestsRead {
     pub answer: Walk,
     pub tests: Tests,
 }
 
-#[derive(Drop)]
+#[derive(Clone, Copy)]
 pub struct OperationsRead {
     pub answer: Walk,
     pub operations: Operations,

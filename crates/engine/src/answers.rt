@@ -6,28 +6,28 @@ use model::{Reply, Things, Verdict};
 
 // The answer, and the things afterwards. Here and below the things come first: a struct lies in memory as it is declared, and behind an odd number of
 // bytes each copy of them would be a slow one.
-#[derive(Drop)]
+#[derive(Clone, Copy)]
 pub struct Stepped {
     pub things: Things,
     pub answer: Reply,
 }
 
 // The same with all that is known of a refusal.
-#[derive(Drop)]
+#[derive(Clone, Copy)]
 pub struct Carried {
     pub things: Things,
     pub answer: Verdict,
 }
 
 // How a list of requests ended: with its end, or with a record that can't be read, after so many requests; or it was refused as a whole.
-#[derive(Drop)]
+#[derive(Clone, Copy)]
 pub enum RunAnswer {
     Whole { count: usize },
     Bad { count: usize, number: u8, at: usize },
     Refused(u8),
 }
 
-#[derive(Drop)]
+#[derive(Clone, Copy)]
 pub struct Ran {
     pub things: Things,
     pub answer: RunAnswer,

@@ -1,7 +1,7 @@
 // A file's bytes, in a lent buffer.
 
 // How much of a file was put into a buffer; or that there is none, or that the system couldn't read it.
-#[derive(Drop)]
+#[derive(Clone, Copy)]
 pub enum Loaded {
     Whole(usize),
     // There is more than the buffer holds.

@@ -8,14 +8,14 @@ use accepted_matrix::matrix_accepted;
 use model::{Scheme, Things};
 use things::seat_of;
 
-#[derive(Drop)]
+#[derive(Clone, Copy)]
 pub enum Marking {
     Done,
     Refused(u8),
 }
 
 // The things afterwards, which are those before where it was refused.
-#[derive(Drop)]
+#[derive(Clone, Copy)]
 pub struct Marked {
     pub things: Things,
     pub answer: Marking,

@@ -3,7 +3,7 @@ ghost use Rattle.std.specs.Prelude.{◌≡◌};
 ghost use Rattle.lines.specs.Ids.{is_digit, as_id, id_in, as_id_word};
 
 // An id, where the word is one to five digits; 0, which is no thing's, where these stand for more than 65535.
-#[derive(Drop)]
+#[derive(Clone, Copy)]
 pub enum IdWord {
     Id(u16),
     Other,

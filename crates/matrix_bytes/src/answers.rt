@@ -3,7 +3,7 @@ use model::Things;
 use records::Reading;
 
 // Where the reading ended, and the things; those that were handed in where it was refused.
-#[derive(Drop)]
+#[derive(Clone, Copy)]
 pub struct MatrixAnswer {
     pub answer: Reading,
     pub things: Things,

@@ -6,7 +6,7 @@ ghost use Rattle.matrix_records.specs.Told.{of_head, of_thing, of_cell, head_pla
 use rights::ThingType;
 
 // What is known of a record before its body is read: its kind, its position, and the next one.
-#[derive(Drop)]
+#[derive(Clone, Copy)]
 pub struct Front {
     pub kind: u16,
     pub at: usize,
@@ -14,7 +14,7 @@ pub struct Front {
 }
 
 // The number of things that a head states, and the highest id that there ever was.
-#[derive(Drop)]
+#[derive(Clone, Copy)]
 pub enum HeadAt {
     Good {
         kind: u16,
@@ -28,7 +28,7 @@ pub enum HeadAt {
     },
 }
 
-#[derive(Drop)]
+#[derive(Clone, Copy)]
 pub enum ThingAt {
     Good {
         kind: u16,
@@ -43,7 +43,7 @@ pub enum ThingAt {
 }
 
 // A cell with its row's and column's ids, and the place where it is kept.
-#[derive(Drop)]
+#[derive(Clone, Copy)]
 pub enum CellAt {
     Good {
         kind: u16,
@@ -60,7 +60,7 @@ pub enum CellAt {
 }
 
 // An id of a cell and its thing's seat, or the number of its fault.
-#[derive(Drop)]
+#[derive(Clone, Copy)]
 pub enum SeatAt {
     Found { id: u16, seat: usize },
     Fault(u8),

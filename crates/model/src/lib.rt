@@ -2,7 +2,7 @@
 use rights::{Parameter, Right, ThingType, TypeSet};
 
 // "right present in [row, column]", or absent from it.
-#[derive(Drop)]
+#[derive(Clone, Copy)]
 pub struct Test {
     pub present: bool,
     pub right: Right,
@@ -10,7 +10,7 @@ pub struct Test {
     pub column: Parameter,
 }
 
-#[derive(Drop)]
+#[derive(Clone, Copy)]
 pub enum Code {
     Enter,
     Delete,
@@ -19,7 +19,7 @@ pub enum Code {
 }
 
 // A create or a destroy names its parameter as row, and has right 0 and column 0.
-#[derive(Drop)]
+#[derive(Clone, Copy)]
 pub struct Operation {
     pub code: Code,
     pub right: Right,
@@ -28,25 +28,25 @@ pub struct Operation {
 }
 
 // Of each list the first `count` places are used; the others are kept at zero.
-#[derive(Drop)]
+#[derive(Clone, Copy)]
 pub struct Parameters {
     pub count: u8,
     pub types: [ThingType; Parameters::PLACES],
 }
 
-#[derive(Drop)]
+#[derive(Clone, Copy)]
 pub struct Tests {
     pub count: u8,
     pub list: [Test; Tests::PLACES],
 }
 
-#[derive(Drop)]
+#[derive(Clone, Copy)]
 pub struct Operations {
     pub count: u8,
     pub list: [Operation; Operations::PLACES],
 }
 
-#[derive(Drop)]
+#[derive(Clone, Copy)]
 pub struct Command {
     pub parameters: Parameters,
     pub tests: Tests,
@@ -54,7 +54,7 @@ pub struct Command {
 }
 
 // The head of a scheme: n rights, m types, which of them are subject types, and how many commands follow.
-#[derive(Drop)]
+#[derive(Clone, Copy)]
 pub struct Head {
     pub rights: u8,
     pub types: u8,
@@ -62,7 +62,7 @@ pub struct Head {
     pub count: u8,
 }
 
-#[derive(Drop)]
+#[derive(Clone, Copy)]
 pub struct Scheme {
     pub head: Head,
     pub commands: [Command; Scheme::PLACES],
@@ -70,7 +70,7 @@ pub struct Scheme {
 
 // The things of a matrix by seat, where a seat whose id is 0 is free: their ids, types, and marks, which say who is on hold; and the highest id that
 // there ever was. The cells are kept apart, in a list of 48 times 48 sets.
-#[derive(Drop)]
+#[derive(Clone, Copy)]
 pub struct Things {
     pub ids: [u16; Things::LIMIT],
     pub types: [ThingType; Things::LIMIT],
@@ -80,13 +80,13 @@ pub struct Things {
 
 // Why a request was refused: the outline's number, and the place, from 0, of the test (14) or of the operation (15 to 17) at fault; 0 with every other
 // number.
-#[derive(Drop)]
+#[derive(Clone, Copy)]
 pub struct Refusal {
     pub number: u8,
     pub place: u8,
 }
 
-#[derive(Drop)]
+#[derive(Clone, Copy)]
 pub enum Verdict {
     Done,
     Refused(Refusal),
@@ -94,7 +94,7 @@ pub enum Verdict {
 
 // What is told of it: the outline's number, 0 for success; with 14 the place, from 0, of the test that doesn't hold, with every other number
 // `NO_TEST`; and how many tests were evaluated and operations carried out or refused.
-#[derive(Drop)]
+#[derive(Clone, Copy)]
 pub struct Reply {
     pub number: u8,
     pub test: u8,

@@ -11,14 +11,14 @@ use model::{Operation, Operations, Parameters, Refusal, Things, Verdict};
 use rights::{Parameter, ThingType};
 
 // The parameters' seats, or the first fault of their ids.
-#[derive(Drop)]
+#[derive(Clone, Copy)]
 pub struct Located {
     pub spots: [u8; Parameters::PLACES],
     pub answer: Verdict,
 }
 
 // The same of one parameter.
-#[derive(Drop)]
+#[derive(Clone, Copy)]
 pub struct Spot {
     pub answer: Verdict,
     pub seat: u8,

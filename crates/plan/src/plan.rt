@@ -14,7 +14,7 @@ use things::{put_thing, seat_of};
 
 // The things as the creates and destroys leave them and where the created ones sit, or the first fault. The things come first, so that copies of them are
 // fast ones: a struct lies in memory as it is declared.
-#[derive(Drop)]
+#[derive(Clone, Copy)]
 pub struct Planning {
     pub things: Things,
     pub spots: [u8; Parameters::PLACES],

@@ -7,7 +7,7 @@ use model::Reply;
 use totals::Totals;
 
 // How far a request's line goes: `play` prints up to the test's place, `run` the steps too.
-#[derive(Drop)]
+#[derive(Clone, Copy)]
 pub enum Columns {
     ToTest,
     ToSteps,

@@ -9,44 +9,44 @@ ghost use Rattle.records.specs.Writing.{write_bytes, write_record};
 ghost use Rattle.records.specs.Told.{of_field, of_field2, of_field8, of_record, of_reading, of_writing, record_place, reading_place};
 
 // The kinds that may stand at a place: bit k for kind k.
-#[derive(Drop)]
+#[derive(Clone, Copy)]
 pub struct Kinds(pub u16);
 
 // What stands at a position: a record, with its kind and where its body is; or the refusal's number with the record's position.
-#[derive(Drop)]
+#[derive(Clone, Copy)]
 pub enum RecordAnswer {
     Record { kind: u16, start: usize, len: usize },
     Refused { number: u8, at: usize },
 }
 
 // Where a reading ended: the next position; or the refusal's number with the record's position.
-#[derive(Drop)]
+#[derive(Clone, Copy)]
 pub enum Reading {
     Done { next: usize },
     Refused { number: u8, at: usize },
 }
 
 // Where a writing ended: the next position; or the refusal's number.
-#[derive(Drop)]
+#[derive(Clone, Copy)]
 pub enum Writing {
     Done { next: usize },
     Refused { number: u8 },
 }
 
 // A field of a body, of one, two or eight bytes: its value, or the number of its fault.
-#[derive(Drop)]
+#[derive(Clone, Copy)]
 pub enum Field {
     Value(u8),
     Fault(u8),
 }
 
-#[derive(Drop)]
+#[derive(Clone, Copy)]
 pub enum Field2 {
     Value(u16),
     Fault(u8),
 }
 
-#[derive(Drop)]
+#[derive(Clone, Copy)]
 pub enum Field8 {
     Value(u64),
     Fault(u8),

@@ -9,13 +9,13 @@ use crate::answers::{Request, RequestAnswer, RequestReading};
 use records::{Field, Field2, Kinds, RecordAnswer};
 
 // The ids were read to their end, or a fault stopped them.
-#[derive(Drop)]
+#[derive(Clone, Copy)]
 pub enum Walk {
     Whole,
     Fault(u8),
 }
 
-#[derive(Drop)]
+#[derive(Clone, Copy)]
 pub struct IdsRead {
     pub answer: Walk,
     pub ids: [u16; Request::LIMIT],

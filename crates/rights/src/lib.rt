@@ -5,21 +5,21 @@ ghost use Rattle.rights.specs.Sets.{has, single, enter_right, delete_right, all_
 ghost use Rattle.rights.specs.Numberings.{right_below, type_below, parameter_below, same_type, same_parameter, zero_right, zero_type, zero_parameter, right_byte, type_byte, parameter_byte, partner_of};
 
 // A right's number, a type's number, and a parameter's place in a command. None may stand where another belongs.
-#[derive(Drop)]
+#[derive(Clone, Copy)]
 pub struct Right(pub u8);
 
-#[derive(Drop)]
+#[derive(Clone, Copy)]
 pub struct ThingType(pub u8);
 
-#[derive(Drop)]
+#[derive(Clone, Copy)]
 pub struct Parameter(pub u8);
 
 // The rights in one cell: bit r for right r.
-#[derive(Drop)]
+#[derive(Clone, Copy)]
 pub struct RightSet(pub u64);
 
 // The types that make a thing a subject: bit t for type t.
-#[derive(Drop)]
+#[derive(Clone, Copy)]
 pub struct TypeSet(pub u16);
 
 impl Right {

@@ -16,7 +16,7 @@ use records::{Reading, Writing};
 const LARGEST: usize = 37208;
 
 // How many answers and how many bytes a run will give.
-#[derive(Drop)]
+#[derive(Clone, Copy)]
 pub struct Needed {
     pub answers: usize,
     pub bytes: usize,

@@ -3,13 +3,13 @@ use model::{Command, Scheme};
 use records::Reading;
 
 // Where the reading ended, and the scheme; the table that was handed in where it was refused.
-#[derive(Drop)]
+#[derive(Clone, Copy)]
 pub struct SchemeAnswer {
     pub answer: Reading,
     pub scheme: Scheme,
 }
 
-#[derive(Drop)]
+#[derive(Clone, Copy)]
 pub struct CommandsAnswer {
     pub answer: Reading,
     pub commands: [Command; Scheme::PLACES],

@@ -10,7 +10,7 @@ use crate::read::read_rest;
 use command_bytes::{HeadAt, read_head};
 use model::Scheme;
 
-#[derive(Drop)]
+#[derive(Clone, Copy)]
 pub(crate) struct SchemeReader<'a> {
     pub input: &'a [u8],
 }

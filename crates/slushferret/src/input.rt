@@ -2,7 +2,7 @@
 use crate::said::tell_of;
 use files::Loaded;
 
-#[derive(Drop)]
+#[derive(Clone, Copy)]
 pub(crate) enum Input {
     Bytes(usize),
     // It can't be read or is too long, which was told: the tool ends, since it never works on a part.

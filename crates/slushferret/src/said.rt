@@ -1,7 +1,7 @@
 // What a tool says on standard output, what it tells on standard error, and how it ended.
 use libc::{STDERR_FILENO, STDOUT_FILENO};
 
-#[derive(Drop)]
+#[derive(Clone, Copy)]
 pub(crate) enum Status {
     Done,
     // A refusal, a file that can't be read or written, or a list that ended with `bad`.

@@ -4,7 +4,7 @@ use crate::words::{ID, TOOL, are_usable, file_count, is_id};
 use crate::{tool_check, tool_convert, tool_hold, tool_move, tool_run};
 use check::same;
 
-#[derive(Drop)]
+#[derive(Clone, Copy)]
 enum Errand {
     Check,
     Run,
@@ -17,7 +17,7 @@ enum Errand {
 }
 
 // What a tool does, how many files it takes, an id counted with them, and how many of these are outputs.
-#[derive(Drop)]
+#[derive(Clone, Copy)]
 struct Tool {
     errand: Errand,
     fewest: usize,

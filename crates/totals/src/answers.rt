@@ -1,5 +1,5 @@
 // What a matrix is answered; a module of its own, since in one module `totals` and `Totals` would differ in case only.
-#[derive(Drop)]
+#[derive(Clone, Copy)]
 pub enum Totals {
     Counted {
         things: u32,
