@@ -1,6 +1,6 @@
 -- The complete robot: conversion is a translation that keeps `Mirrored`, so the robot answers as the office, and its matrix goes on mirroring.
 -- Assumes nothing.
-use Prim.Native.Nat.{ℕ, ◌≤◌, ◌<◌}
+use Prim.Native.Nat.{ℕ, suc, ◌+◌, ◌≤◌, ◌<◌}
 use mathlib.Core.Path.{◌≡◌, refl}
 use mathlib.Core.Bool.{Bool, true, false, cond}
 use mathlib.Core.List.{List, [], ◌∷◌, map, Forall₂}
@@ -73,7 +73,7 @@ module _ (h : Head) (small : h.rights ≤ 32) where
   unfolding all convert_operations
   operations_become types i j k [] keeps body = end
   operations_become types i j k (o ∷ os) keeps (next, body) =
-      change (change_becomes types o o.code refl (search and_left) next.fits) (operations_become types _ _ _ os (search and_right) body)
+      change (change_becomes types o o.code refl (search and_left) next.fits) (operations_become types (suc i) (j + length (convert_as n o o.code)) (suc k) os (search and_right) body)
 
   test_becomes : (t : Test) → t.right.0 < n → TestBecomes (Mirrored n) t (convert_test n t)
   unfolding convert_test verdict

@@ -7,17 +7,10 @@ use lib.ListN.{length}
 use lib.Seq.{take_all}
 use borrow.Author.Rules.{rules}
 use Rattle.model.specs.Seats.{find}
-use Rattle.things.proofs.seat_of.Statement.{statement}
-use Rattle.things.proofs.seat_of.Tie as tie
+use Rattle.things.proofs.seat_of.Goals as goal
 
-seat-in-requires : tie.Need-seat-in-requires
-seat-in-requires c κs = search rules
-
-returns : tie.Need-returns
+pub returns : goal.returns
 returns c =
-    let a = c.before.args in
+    let a = c.args in
     let full : length a.ids ≡ 48 = search rules in
     c.seat_in.ensures ∙ ap (λ (l : List ℕ). find l a.x) (take_all 48 a.ids (omega arith))
-
-pub seat-of-spec : {M : Type 1} → statement M
-seat-of-spec = tie.close (tie.spec seat-in-requires returns)

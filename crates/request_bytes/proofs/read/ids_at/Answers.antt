@@ -1,0 +1,35 @@
+-- `request_bytes::read::ids_at` meets its contract: after j turns j ids are read, and stand at the array's start.
+-- Assumes nothing.
+use Prim.Native.Nat.{ℕ, ◌+◌, ◌*◌, ◌-◌, ◌≤◌}
+use native.Mathlib.Omega.{arith}
+use native.Mathlib.Nat.{add-zero}
+use mathlib.Core.List.{◌++◌, map, map-id}
+use mathlib.Core.Path.{◌≡◌, refl, sym, ◌∙◌}
+use lib.ListN.{drop, replicate}
+use borrow.Author.Rules.{rules}
+use Rattle.records.specs.Reading.{number}
+use Rattle.records.proofs.FieldLaws.{field2_value, field2_fault}
+use Rattle.records.proofs.Loop.{Looped, looped_none, looped_on, looped_stop, looped_all, fill_next}
+use Rattle.request_bytes.proofs.read.ids_at.Goals as goal
+
+pub loop-j-init : goal.loop-j-init
+loop-j-init c = (omega arith, rw add-zero looped_none, refl)
+
+pub returns-in_default : goal.returns-in_default
+returns-in_default c =
+    let found = c.in_default.is in
+    let e = field2_fault _ _ (sym c.field2_at-found.ensures ∙ found) in
+    rw (c.number.ensures, found, looped_stop c.loop-j.invariant.1 c.loop-j-test.true e)
+
+pub loop-j-preserved : goal.loop-j-preserved
+loop-j-preserved c =
+    let l = c.loop-j in
+    let a = c.args in
+    let (m, v, e) = l.invariant in
+    let f = field2_value a.b.now (a.i + 2 * l.j) (a.i + 2 * (l.j + 1)) _ (omega arith) (sym c.field2_at-found.ensures ∙ c.in-Value.is) in
+    (omega arith, looped_on v c.loop-j-test.true f, fill_next (λ x. x) 0 8 v.items _ _ e v.count (omega arith))
+
+pub returns : goal.returns
+returns c =
+    let (m, v, e) = c.loop-j.invariant in
+    rw (looped_all v c.loop-j-test.false, e, map-id, v.count)
