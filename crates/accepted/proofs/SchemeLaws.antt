@@ -4,14 +4,12 @@ use Prim.Native.Nat.{ℕ, suc, ◌+◌, ◌-◌, ◌≤◌, ◌<◌}
 use mathlib.Core.Path.{◌≡◌, refl, sym, ap, ◌∙◌}
 use mathlib.Core.Option.{none, some}
 use mathlib.Core.Bool.{Bool, true, false, not, cond, ◌&&◌, and_assoc, and-true}
-use mathlib.Core.Logic.{⊎_elim}
+use mathlib.Core.Logic.{◌⊎◌, ⊎_elim}
 use mathlib.Core.List.{List, [], ◌∷◌, reverse}
 use native.Mathlib.Decide.{dec_lt}
 use native.Mathlib.Nat.{sub-zero}
 use native.Mathlib.Omega.{arith}
 use borrow.Author.Tests.{lt-ltb, le-ltb, lt-leb, le-leb, leb-true, eq-eqb, not-true, not-false}
-use types.Run.{OneOf}
-use denote.Enum.Declared.{tag_of}
 use lib.Dec.{leb, ltb}
 use lib.ListN.{take, drop, get_or, length}
 use lib.Seq.{length-take-le, take_all, take-nil, drop-nil}
@@ -23,7 +21,6 @@ use Rattle.model.specs.Scheme.{is_subject, parameters_of, tests_of, operations_o
 use Rattle.model.specs.Accepted.{group, last_group, type_range, test_fault, change_fault, code_fault, operation_fault, operations_fault, command_fault}
 use Rattle.model.specs.declared.Code.{Code}
 use Rattle.model.specs.declared.Code.TheVariants.{Enter, Delete, Create, Destroy}
-use Rattle.model.specs.contracts.Code.{the_type}
 use Rattle.model.specs.declared.Command.{Command}
 use Rattle.model.specs.declared.Head.{Head}
 use Rattle.model.specs.declared.Test.{Test}
@@ -132,16 +129,10 @@ module _ (h : Head) (types : List ThingType) (tests : List Test) (before : List 
   in_group x code k e f = rw (le-leb _ _ k) (f ∙ ap (λ c. as_checked (code_fault h types tests before o c)) (sym e))
 
   -- enter and delete say the same of a cell
-  pub in_change : (x : Checked) → last_group before ≤ group o.code → OneOf (0 ∷ 1 ∷ []) (tag_of the_type o.code)
+  pub in_change : (x : Checked) → last_group before ≤ group o.code → (o.code ≡ Enter) ⊎ (o.code ≡ Delete)
       → x ≡ as_checked (cell_fault h types o.right o.row o.column) → x ≡ as_checked (operation_fault h types tests before o)
   unfolding code_fault change_fault
-  in_change x k t f = by o.code refl t
-    where
-      by : (code : Code) → o.code ≡ code → OneOf (0 ∷ 1 ∷ []) (tag_of the_type code) → x ≡ as_checked (operation_fault h types tests before o)
-      by Enter e t = in_group x Enter k e f
-      by Delete e t = in_group x Delete k e f
-      by Create e t = absurd (⊎_elim (λ z. omega arith) (λ z. omega arith) t)
-      by Destroy e t = absurd (⊎_elim (λ z. omega arith) (λ z. omega arith) t)
+  in_change x k t f = ⊎_elim (λ e. in_group x Enter k e f) (λ e. in_group x Delete k e f) t
 
 -- ---- a command's three lists
 module _ (h : Head) (c : Command) where

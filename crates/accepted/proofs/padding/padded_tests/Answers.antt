@@ -1,0 +1,17 @@
+-- The walk over the tests behind those in use carries along whether all were zero.
+use Prim.Native.Nat.{◌-◌}
+use native.Mathlib.Omega.{arith}
+use borrow.Author.Rules.{rules}
+use Rattle.laws.specs.Check.{padded}
+use Rattle.laws.proofs.Walks.{long, Carried, carried, arrived, behind}
+use Rattle.model.specs.Accepted.{zero_test}
+use Rattle.accepted.proofs.padding.padded_tests.Goals as goal
+
+pub loop-i-init : goal.loop-i-init
+loop-i-init c = record { walk = behind _ 16 _ _ (search (rules, long)) }
+
+pub loop-i-preserved : goal.loop-i-preserved
+loop-i-preserved c = carried c.loop-i.invariant _ _ (omega arith) c.zero_test-zero.ensures
+
+pub returns : goal.returns
+returns c = arrived c.loop-i.invariant (omega arith)

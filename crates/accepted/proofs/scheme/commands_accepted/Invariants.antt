@@ -1,0 +1,13 @@
+-- The walk over all places carries along whether each was accepted.
+use Prim.Native.Nat.{◌-◌}
+use borrow.Author.Rules.{rules}
+use Rattle.laws.proofs.Walks.{long}
+use Rattle.model.specs.Accepted.{accepted_command, zero_command}
+use Rattle.accepted.proofs.SchemeLaws.{Filled, filled_start, filled_on, filled_end}
+use Rattle.accepted.proofs.scheme.commands_accepted.Given as goal
+
+abbrev pub invariant-loop-i : goal.invariant-loop-i
+invariant-loop-i l = Filled (accepted_command l.s.head) zero_command l.n l.s.commands 32 l.fine l.i
+
+abbrev pub decreases-loop-i : goal.decreases-loop-i
+decreases-loop-i l = 32 - l.i
