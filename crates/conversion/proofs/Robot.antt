@@ -5,14 +5,14 @@ use mathlib.Core.Path.{◌≡◌, refl}
 use mathlib.Core.Bool.{Bool, true, false, cond}
 use mathlib.Core.List.{List, [], ◌∷◌, map, Forall₂}
 use lib.Dec.{T, eqb_refl}
-use lib.ListN.{take}
+use lib.ListN.{length, take}
 use Rattle.rights.specs.Numberings.{partner_of}
 use Rattle.rights.specs.declared.ThingType.{ThingType}
 use Rattle.laws.specs.Check.{all, Each}
 use Rattle.model.specs.Scheme.{parameters_of, tests_of, operations_of, commands_of, keeps_things}
 use Rattle.model.specs.Request.{Request, run, answers}
 use Rattle.model.specs.Papers.{State, papers}
-use Rattle.model.specs.Accepted.{accepted_command, accepted_scheme}
+use Rattle.model.specs.Accepted.{group, accepted_command, accepted_scheme}
 use Rattle.model.specs.Translation.{verdict, changed_by, changed_by_all, changes_cell, Related, TestBecomes, ChangeBecomes, OperationsBecome, end, change}
 use Rattle.model.specs.Translation.{CommandBecomes, Translates, Together}
 use Rattle.model.specs.declared.Test.{Test}
@@ -73,7 +73,7 @@ module _ (h : Head) (small : h.rights ≤ 32) where
   unfolding all convert_operations
   operations_become types i j k [] keeps body = end
   operations_become types i j k (o ∷ os) keeps (next, body) =
-      change (change_becomes types o o.code refl (search and_left) next.fits) (operations_become types (suc i) (j + length (convert_as n o o.code)) (suc k) os (search and_right) body)
+      change (change_becomes types o o.code refl (search and_left) next.fits) (operations_become types (suc i) (j + length (convert_as n o o.code)) (group o.code) os (search and_right) body)
 
   test_becomes : (t : Test) → t.right.0 < n → TestBecomes (Mirrored n) t (convert_test n t)
   unfolding convert_test verdict
