@@ -1,0 +1,41 @@
+-- `lists::types_at` meets its contract: after j turns j types are read, and stand at the array's start.
+-- Assumes nothing.
+use Prim.Native.Nat.{◌+◌, ◌-◌, ◌≤◌}
+use native.Mathlib.Omega.{arith}
+use native.Mathlib.Nat.{add-zero}
+use mathlib.Core.List.{◌++◌, map, map-id}
+use mathlib.Core.Path.{◌≡◌, refl}
+use lib.ListN.{drop, replicate}
+use Rattle.rights.specs.declared.ThingType.{ThingType}
+use Rattle.model.specs.Scheme.{no_type}
+use borrow.Author.Rules.{rules}
+use Rattle.records.proofs.Loop.{Looped, looped_none, looped_on, looped_stop, looped_all, fill_next}
+use Rattle.command_bytes.specs.Read.{type_in}
+use Rattle.command_bytes.proofs.Told.{tells, field_tells}
+use Rattle.command_bytes.proofs.ListLaws.{type_value, type_fault}
+use Rattle.command_bytes.proofs.lists.types_at.Goals as goal
+
+pub loop-j-init : goal.loop-j-init
+loop-j-init c = (omega arith, rw add-zero looped_none, refl)
+
+pub returns-in_default : goal.returns-in_default
+returns-in_default c =
+    let f = field_tells c.field_at-found.ensures c.in_default.is c.number.ensures in
+    let e = type_fault c.args.h _ _ f in
+    rw (looped_stop c.loop-j.invariant.1 c.loop-j-test.true e, c.no_parameters.ensures)
+
+pub loop-j-preserved : goal.loop-j-preserved
+loop-j-preserved c =
+    let l = c.loop-j in
+    let a = c.args in
+    let (m, v, e) = l.invariant in
+    let g = tells c.field_at-found.ensures c.in-Value.is in
+    let f = type_value a.b.now (a.i + l.j) (a.i + (l.j + 1)) a.h (omega arith) g in
+    (omega arith, looped_on v c.loop-j-test.true f, fill_next (λ t. t) no_type 8 v.items _ _ e v.count (omega arith))
+
+pub returns : goal.returns
+returns c =
+    let l = c.loop-j in
+    let (m, v, e) = l.invariant in
+    let d : l.j ≡ c.args.k = omega arith in
+    rw (looped_all v c.loop-j-test.false, e, map-id, v.count, d)
