@@ -3,12 +3,8 @@
 use mathlib.Core.Path.{refl}
 use Rattle.laws.specs.Check.{between}
 use Rattle.lines.specs.Ids.{is_digit}
-use Rattle.lines.proofs.ids.is_digit.Statement.{statement}
-use Rattle.lines.proofs.ids.is_digit.Tie as tie
+use Rattle.lines.proofs.ids.is_digit.Goals as goal
 
-returns : tie.Need-returns
+pub returns : goal.returns
 unfolding is_digit between
 returns c = refl
-
-pub is-digit-spec : {M : Type 1} → statement M
-is-digit-spec = tie.close (tie.spec returns)
