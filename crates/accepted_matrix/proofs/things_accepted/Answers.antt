@@ -8,24 +8,14 @@ use mir.Val.{Fits}
 use native.Mathlib.Omega.{arith}
 use Rattle.laws.proofs.Walks.{long}
 use Rattle.model.specs.Accepted.{accepted_things}
-use Rattle.accepted_matrix.proofs.things_accepted.Statement.{statement}
-use Rattle.accepted_matrix.proofs.things_accepted.Tie as tie
+use Rattle.accepted_matrix.proofs.things_accepted.Goals as goal
 
-ids-apart-requires : tie.Need-ids-apart-requires
-ids-apart-requires c κs = search rules
-
-seats-accepted-requires : tie.Need-seats-accepted-requires
-seats-accepted-requires c κs = search rules
-
-returns : tie.Need-returns
+pub returns : goal.returns
 unfolding accepted_things
 returns c =
-    let th = c.before.before.before.args.th in
+    let th = c.args.th in
     let full : length th.ids ≡ 48 = search rules in
     let typed : length th.types ≡ 48 = search (rules, long) in
     let marked : length th.marks ≡ 48 = search (rules, long) in
     let small : Fits w16 th.highest = search rules in
-    rw (c.before.ids_apart.ensures, c.seats-accepted.ensures, eq-eqb _ _ full, eq-eqb _ _ typed, eq-eqb _ _ marked, le-leb th.highest 65535 (omega arith))
-
-pub things-accepted-spec : {M : Type 1} → statement M
-things-accepted-spec = tie.close (tie.spec ids-apart-requires seats-accepted-requires returns)
+    rw (c.ids_apart.ensures, c.seats_accepted.ensures, eq-eqb _ _ full, eq-eqb _ _ typed, eq-eqb _ _ marked, le-leb th.highest 65535 (omega arith))
