@@ -3,4 +3,3 @@ pub mod RoundTrips
 pub mod AcceptedTrip
 pub mod FunctionTrips
 pub mod ReadLaws
-pub mod Held

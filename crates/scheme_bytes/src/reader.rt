@@ -1,5 +1,4 @@
-// A scheme is a head and its commands, then the end: the thin reader that holds the slice. The borrow checker covers no function over
-// such a struct, so each is straight-line, calls the covered functions, and is proved by hand.
+// A scheme is a head and its commands, then the end: the thin reader that holds the slice.
 ghost use Rattle.std.specs.Prelude.{◌≡◌};
 ghost use Rattle.command_bytes.specs.Answers.{read_head};
 ghost use Rattle.scheme_bytes.specs.Answers.{read_scheme};
@@ -37,8 +36,8 @@ impl<'a> SchemeReader<'a> {
     }
 }
 
-// The whole of an input as a scheme; where it is refused, the table comes back as it was handed in. Its parameters are plain, so what
-// calls it is covered; no other crate sees the struct, which would take a head that no reading gives.
+// The whole of an input as a scheme; where it is refused, the table comes back as it was handed in.
+// No other crate sees the struct, which would take a head that no reading gives.
 pub fn read_scheme(s: &[u8], table: Scheme) -> SchemeAnswer
     ensures { result ≡ read_scheme s.now table }
 {
