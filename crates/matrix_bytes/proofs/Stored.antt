@@ -118,7 +118,7 @@ module _ (h : Head) (highest : ℕ) (ts : List ThingRecord) (listed : ThingsOk h
   store_room : (cells : List ℕ) (cs : List CellRecord) → length (store_all th cells cs) ≡ length cells
   unfolding store_all store
   store_room cells [] = refl
-  store_room cells (c ∷ cs) = store_room _ cs ∙ length-set cells (place th c.row c.column) c.rights
+  store_room cells (c ∷ cs) = store_room (set cells (place th c.row c.column) c.rights) cs ∙ length-set cells (place th c.row c.column) c.rights
 
   cell_stands : (c : CellRecord) → CellOk h ts c → T (standing h th (seat th c.row) (seat th c.column))
   unfolding standing

@@ -122,9 +122,12 @@ abbrev pub top : ℕ
 top = spot 65535 65535
 
 module _ (h : Head) (ts : List ThingRecord) where
+  rising_from : {a b : ℕ} {cs : List CellRecord} (last : CellRecord) → a ≡ spot_of last → Between a cs b → EachCell (CellOk h ts) cs → OkAll (λ last c. c) (NextOk h ts) last cs
+  rising_from last e (stop l) no = tt
+  rising_from last e (on {c = c} o w) (also p q) = ((spot_above last c.row c.column p.column_small (rw e at o), p), rising_from c refl w q)
+
   rising_ok : {b : ℕ} {cs : List CellRecord} (last : CellRecord) → Between (spot_of last) cs b → EachCell (CellOk h ts) cs → OkAll (λ last c. c) (NextOk h ts) last cs
-  rising_ok last (stop l) no = tt
-  rising_ok last (on {c = c} o w) (also p q) = ((spot_above last c.row c.column p.column_small o, p), rising_ok c w q)
+  rising_ok last w all = rising_from last refl w all
 
   ok_rising : (last : CellRecord) (cs : List CellRecord) → last.column ≤ 65535 → spot_of last ≤ top → OkAll (λ last c. c) (NextOk h ts) last cs →
       Between (spot_of last) cs top × EachCell (CellOk h ts) cs
