@@ -1,4 +1,5 @@
 // A scheme's bytes, into a lent buffer. What they are is said in `scheme_bytes`, beside what is read.
+#![tactic(auto)]
 mod write;
 
 pub use write::write_scheme;

@@ -1,0 +1,18 @@
+-- `write::put_tests` meets its contract: after j turns, what is left to store is what remains of the tests' bytes.
+-- Assumes nothing.
+use Prim.Native.Nat.{◌+◌, ◌*◌, ◌-◌, ◌≤◌}
+use native.Mathlib.Omega.{arith}
+use mathlib.Core.Path.{◌≡◌}
+use lib.ListN.{length}
+use borrow.Author.Rules.{rules}
+use Rattle.laws.proofs.Walks.{long}
+use Rattle.command_bytes.specs.Write.{test_bytes}
+use Rattle.scheme_write.proofs.WriteLaws.{Storing, storing_start, storing_on, storing_end}
+use Rattle.model.specs.Scheme.{no_test}
+use Rattle.scheme_write.proofs.write.put_tests.Given as goal
+
+abbrev pub invariant-loop-j : goal.invariant-loop-j
+invariant-loop-j l = (l.j ≤ l.n) × Storing test_bytes l.t.list l.n l.initial.part l.i l.part (l.i + 4 * l.j) l.j
+
+abbrev pub decreases-loop-j : goal.decreases-loop-j
+decreases-loop-j l = l.n - l.j
