@@ -6,7 +6,6 @@ use mathlib.Core.Path.{◌≡◌, refl, sym, ap, ◌∙◌}
 use mathlib.Core.Logic.{⊎_elim}
 use mathlib.Core.List.{List, [], ◌∷◌}
 use lib.ListN.{length}
-use types.Run.{OneOf}
 use denote.Enum.Declared.{tag_of}
 use Rattle.records.specs.declared.Reading.{Reading}
 use Rattle.records.specs.declared.Reading.TheVariants as reading
@@ -31,9 +30,9 @@ end_of p (Done next) = reading.Done next
 end_of p End = reading.Done p
 end_of p (Refused k q) = reading.Refused k q
 
--- a reading that gave no request, by its variant's number
+-- a reading that gave no request
 abbrev pub Stops : RequestReading → Type 0
-Stops r = OneOf (1 ∷ 2 ∷ []) (tag_of the_type r)
+Stops r = (next : ℕ) → r ≡ Done next → ⊥
 
 -- the rest of a list, behind a request
 abbrev pub behind : Form → Listed → Listed
@@ -53,7 +52,7 @@ module _ (fuel : ℕ) (bytes : List ℕ) (p : ℕ) (a : RequestAnswer) (is : a �
   from_on next e = answered ∙ ap (on_answer p a.request (read_from fuel bytes)) e
 
   pub from_stop : (r : RequestReading) → r ≡ a.answer → Stops r → read_from (suc fuel) bytes p ≡ ended (end_of p r)
-  from_stop (Done next) e h = absurd (⊎_elim (λ z. omega arith) (λ z. omega arith) h)
+  from_stop (Done next) e h = absurd (h next refl)
   from_stop End e h = answered ∙ ap (on_answer p a.request (read_from fuel bytes)) (sym e)
   from_stop (Refused k q) e h = answered ∙ ap (on_answer p a.request (read_from fuel bytes)) (sym e)
 
