@@ -1,4 +1,5 @@
 // One request, and a list of requests, on a lent matrix.
+#![tactic(auto)]
 mod answers;
 mod cells;
 mod list;

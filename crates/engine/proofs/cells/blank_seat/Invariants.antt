@@ -1,0 +1,15 @@
+-- `blank` of the cells stays what it was, and after j turns the seat's cells at columns and rows below j are 0.
+use Prim.Native.Nat.{◌≤◌, ◌-◌}
+use mathlib.Core.Path.{◌≡◌, refl, sym, ◌∙◌}
+use native.Mathlib.Omega.{arith}
+use lib.ListN.{length, length-set}
+use borrow.Author.Rules.{rules}
+use Rattle.model.specs.Seats.{blank}
+use Rattle.engine.proofs.CellLaws.{Clear, clear_turn, blank_turn, blank_end, blank_out}
+use Rattle.engine.proofs.cells.blank_seat.Given as goal
+
+abbrev pub invariant-loop-j : goal.invariant-loop-j
+invariant-loop-j l = (l.j ≤ 48) × (length l.cells ≡ 2304) × (blank l.p 0 l.cells ≡ blank l.p 0 l.initial.cells) × Clear l.p l.j l.cells
+
+abbrev pub decreases-loop-j : goal.decreases-loop-j
+decreases-loop-j l = 48 - l.j

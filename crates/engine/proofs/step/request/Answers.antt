@@ -1,0 +1,23 @@
+-- What is not accepted is answered 27; what is, is a step.
+-- Assumes nothing.
+use mathlib.Core.Path.{sym, ◌∙◌}
+use borrow.Author.Tests.{not-true, not-false}
+use Rattle.engine.proofs.StepLaws.{both_accepted, no_steps_27, refuses_27, request_step}
+use borrow.Author.Rules.{rules}
+use Rattle.engine.proofs.step.request.Goals as goal
+
+pub told-requires : goal.told-requires
+told-requires c = rw c.refuse.ensures no_steps_27
+
+pub returns-then-not-all_accepted : goal.returns-then-not-all_accepted
+returns-then-not-all_accepted c =
+    refuses_27 c.args.s _ _ _ (sym c.all_accepted.ensures ∙ not-true _ c.if-not-all_accepted.true-raw) _ c.refuse.ensures
+    _ c.told.ensures
+
+pub step_on-requires : goal.step_on-requires
+step_on-requires c =
+    both_accepted c.args.s _ (sym c.all_accepted.ensures ∙ not-false _ c.if-not-all_accepted.false-raw)
+
+pub returns : goal.returns
+returns c =
+    request_step c.args.s _ _ _ (sym c.all_accepted.ensures ∙ not-false _ c.if-not-all_accepted.false-raw) _ _ c.step_on.ensures

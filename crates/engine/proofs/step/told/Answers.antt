@@ -1,0 +1,6 @@
+-- The reply is the answer's.
+use borrow.Author.Rules.{rules}
+use Rattle.engine.proofs.step.told.Goals as goal
+
+pub returns : goal.returns
+returns c = rw c.reply.ensures
