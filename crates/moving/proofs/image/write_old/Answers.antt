@@ -1,0 +1,12 @@
+-- `moving::image::write_old` meets its contract: the head's body without the highest, and the rest of the image.
+-- Assumes nothing.
+use borrow.Author.Rules.{rules}
+use Rattle.moving.proofs.ImageLaws.{part_few, old_is}
+use Rattle.moving.proofs.image.write_old.Goals as goal
+
+pub write_image-requires : goal.write_image-requires
+write_image-requires c = part_few _ _ c.body.ensures
+
+pub returns : goal.returns
+returns c =
+    old_is _ _ _ _ c.body.ensures c.body-2.ensures _ c.write_image.ensures
