@@ -1,4 +1,5 @@
 // A scheme, or a matrix of it, converted: as values, and as bytes.
+#![tactic(auto)]
 mod answers;
 mod bytes;
 mod command;
