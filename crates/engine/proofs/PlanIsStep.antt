@@ -154,9 +154,9 @@ module _ (s : Head) (types : List ThingType) (ids : List ℕ) where
   operations_go : ((q : Parameter) → q.0 < length types → id_at ids q ≢ 0) → (k p : ℕ) (os : List Operation) → Body s types k os
       → (th : Things) (spots cells : List ℕ) → Seated types ids k os th spots → Alike p os th spots cells
   unfolding plan_all operate_all operate carried_by cells_after
-  operations_go nonzero k p [] b th spots cells seated = refl
-  operations_go nonzero k p (o ∷ os) (n, b) th spots cells seated =
-      act_goes nonzero k p o os b th spots cells seated (operations_go nonzero (group o.code) (suc p) os b) o.code refl n.order n.fits
+  operations_go nonzero k p [] b th spots cells here = refl
+  operations_go nonzero k p (o ∷ os) (n, b) th spots cells here =
+      act_goes nonzero k p o os b th spots cells here (operations_go nonzero (group o.code) (suc p) os b) o.code refl n.order n.fits
 
   tests_same : (m : Matrix) (os : List Operation) (spots : List ℕ) → Seated types ids 0 os m.things spots → (p : ℕ) (ts : List Test)
       → Each (Tested s types os) ts → first_false m.cells spots p ts ≡ tests_fault seats m ids p ts
