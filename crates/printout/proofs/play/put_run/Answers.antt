@@ -1,0 +1,11 @@
+-- `play::put_run` meets its contract: the heading, the lines of the list with the results of the run, and the totals it leaves.
+-- Assumes nothing.
+use native.Mathlib.Omega.{arith}
+use borrow.Author.Rules.{rules}
+use Rattle.printout.proofs.PlayLaws.{printed}
+use Rattle.printout.proofs.play.put_run.Goals as goal
+
+pub returns : goal.returns
+returns c =
+    printed c.args.s _ c.requires.0 c.requires.1 _ _ (omega (arith, c.requires)) _ _ _ c.run_list-ran.ensures _
+    (omega arith) c.put_heading-heading.ensures c.put_requests-lines.ensures _ c.totals.ensures c.put_end.ensures

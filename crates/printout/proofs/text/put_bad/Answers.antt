@@ -1,0 +1,14 @@
+-- `text::put_bad` meets its contract: the word, then the two numbers.
+-- Assumes nothing.
+use native.Mathlib.Omega.{arith}
+use mathlib.Core.Path.{◌∙◌}
+use borrow.Author.Rules.{rules}
+use Rattle.lines.proofs.PutLaws.{put_then}
+use Rattle.printout.specs.Text.{bad_line}
+use Rattle.printout.proofs.text.put_bad.Goals as goal
+
+
+pub returns : goal.returns
+unfolding bad_line
+returns c =
+    c.put_line.ensures ∙ put_then _ _ _ c.put_text-p.ensures (omega arith) _
