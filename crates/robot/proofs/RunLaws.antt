@@ -8,8 +8,6 @@ use mathlib.Core.Bool.{Bool, true, false, cond, ◌&&◌}
 use mathlib.Core.List.{List, [], ◌∷◌}
 use mathlib.Core.Logic.{⊎_elim}
 use mathlib.Core.Path.{◌≡◌, refl, sym, ap, ◌∙◌}
-use denote.Enum.Declared.{tag_of}
-use types.Run.{OneOf}
 use lib.Dec.{T, leb}
 use lib.ListN.{length, get_or}
 use borrow.Author.Tests.{le-leb, lt-leb}
@@ -93,7 +91,7 @@ module _ (s : Scheme) (ok : T (accepted_scheme s)) where
 
 -- ---- a list that was run: refused by 9 as a whole, or carried out to its end
 abbrev RunsOn : RunAnswer → Type 0
-RunsOn a = OneOf (0 ∷ 1 ∷ []) (tag_of the_type a)
+RunsOn a = (k : ℕ) → a ≡ Refused k → ⊥
 
 ended_not : (n x : ℕ) (e : Reading) → run_answer n e ≡ Refused x → ⊥
 ended_not n x (reading.Done next) f = constructors_differ (cc)
@@ -134,7 +132,7 @@ module _ (s : Scheme) (ok : T (accepted_scheme s)) (m : Matrix) (of : T (accepte
   carried_by h true f = (refl, f)
   carried_by h false f =
       let a : r.answer ≡ Refused 9 = ap (λ (q : Result). q.ran.answer) f in
-      absurd (⊎_elim (λ z. omega arith) (λ z. omega arith) (rw a at h))
+      absurd (h 9 a)
 
   module _ (report out : List ℕ) (n : ℕ) (report' : List ℕ) where
     pub run_short : (x : ℕ) → r.answer ≡ Refused x → ◌≡◌ {A = ℕ × List ℕ} (n, report') (gives report (ending_by 0 r.answer)) →

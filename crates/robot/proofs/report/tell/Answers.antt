@@ -1,0 +1,10 @@
+-- The five numbers, one after the other.
+-- Assumes nothing.
+use Rattle.robot.specs.Library.{reported}
+use borrow.Author.Rules.{rules}
+use Rattle.robot.proofs.report.tell.Goals as goal
+
+pub returns : goal.returns
+unfolding reported
+returns c =
+    rw (c.put-5.ensures, c.put-4.ensures, c.put-3.ensures, c.put-2.ensures, c.put.ensures)
