@@ -90,7 +90,7 @@ module _ (s : Scheme) (ok : T (accepted_scheme s)) (can : T (convertible s)) whe
   doubles_each office robot m [] more = tt
   doubles_each office robot m (q ∷ qs) more = (
     doubles office robot m q,
-    doubles_each _ _ (mirrors_on office robot m q) qs more,
+    doubles_each (after office (step papers s office q)) (after robot (step papers (convert_scheme s) robot q)) (mirrors_on office robot m q) qs more,
   )
 
 -- what the robot has read

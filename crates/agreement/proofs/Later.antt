@@ -66,7 +66,7 @@ module _ (s : Scheme) (ok : T (accepted_scheme s)) where
   runs_later m of [] = (of, later_same s m)
   runs_later m of (r ∷ rs) =
       let (of', a) = run_later m of r.list r.replies in
-      let (of'', b) = runs_later _ of' rs in
+      let (of'', b) = runs_later (left_in (run_on s m r.list r.replies)) of' rs in
       (of'', later_then a b)
 
 -- a stranger's runs are refused by 27, each of them
@@ -159,7 +159,7 @@ pub calls_later : {scheme image : List ℕ} {s : Scheme} {m : Matrix} → Held s
     (end : Matrix) × Held scheme (image_after scheme image cs) s end × Later s m end
 unfolding image_after
 calls_later {s = s} {m = m} h [] = (m, h, later_same s m)
-calls_later h (c ∷ cs) =
+calls_later {scheme = scheme} {image = image} h (c ∷ cs) =
     let (mid, h', a) = call_later h c in
-    let (end, h'', b) = calls_later h' cs in
+    let (end, h'', b) = calls_later {image = kept_image scheme image c} h' cs in
     (end, h'', later_then a b)

@@ -14,7 +14,9 @@ use Rattle.model.proofs.Stands.{absent}
 use Rattle.model.proofs.Find.{is_known}
 use Rattle.model.proofs.NeverAgain.{Since, run_since, none_above, no_return}
 use Rattle.agreement.specs.LibraryAgrees.{Bytes}
-use Rattle.agreement.specs.NeverAgain.{Run, after_runs, Call, image_after, has_thing, NeverAgain}
+use Rattle.engine.specs.List.{run_on}
+use Rattle.agreement.specs.Agreement.{left_in}
+use Rattle.agreement.specs.NeverAgain.{Run, after_runs, Call, kept_image, image_after, has_thing, NeverAgain}
 use Rattle.agreement.proofs.EachReply.{accepted}
 use Rattle.agreement.proofs.LibraryRuns.{Held}
 use Rattle.agreement.proofs.Later.{Later, runs_later, stranger_stays, reads, read_as, calls_later}
@@ -36,7 +38,7 @@ gone_stays s m mid end of a b x there gone =
 runs_append : (s : Scheme) (m : Matrix) (rs more : List Run) → after_runs s m (rs ++ more) ≡ after_runs s (after_runs s m rs) more
 unfolding after_runs
 runs_append s m [] more = refl
-runs_append s m (r ∷ rs) more = runs_append s _ rs more
+runs_append s m (r ∷ rs) more = runs_append s (left_in (run_on s m r.list r.replies)) rs more
 
 of_runs : (s : Scheme) (m : Matrix) (between later : List Run) (x : ℕ) → T (known m.things x) → T (not (known (after_runs s m between).things x)) →
     T (not (known (after_runs s m (between ++ later)).things x))
@@ -58,7 +60,7 @@ calls_append : (scheme image : List ℕ) (cs more : List Call) →
     image_after scheme image (cs ++ more) ≡ image_after scheme (image_after scheme image cs) more
 unfolding image_after
 calls_append scheme image [] more = refl
-calls_append scheme image (c ∷ cs) more = calls_append scheme _ cs more
+calls_append scheme image (c ∷ cs) more = calls_append scheme (kept_image scheme image c) cs more
 
 of_calls : (scheme image : List ℕ) (between later : List Call) (x : ℕ) → Bytes scheme → Bytes image → T (has_thing scheme image x) →
     T (not (has_thing scheme (image_after scheme image between) x)) → T (not (has_thing scheme (image_after scheme image (between ++ later)) x))
