@@ -20,7 +20,7 @@ use Rattle.laws.proofs.Walks.{Walk, on, end, one_more}
 use Rattle.model.specs.Scheme.{is_subject, parameters_of, tests_of, operations_of}
 use Rattle.model.specs.Accepted.{group, last_group, type_range, test_fault, change_fault, code_fault, operation_fault, operations_fault, command_fault}
 use Rattle.model.specs.declared.Code.{Code}
-use Rattle.model.specs.declared.Code.TheVariants.{Enter, Delete, Create, Destroy}
+use Rattle.model.specs.declared.Code.TheVariants.{Enter, Delete}
 use Rattle.model.specs.declared.Command.{Command}
 use Rattle.model.specs.declared.Head.{Head}
 use Rattle.model.specs.declared.Test.{Test}

@@ -1,5 +1,6 @@
 // 27: whether a scheme is one that some reading gives. The checks go through the fields in the outline's order and tell the first fault.
 #![tactic(auto)]
+
 mod checked;
 mod command;
 mod form;

@@ -1,5 +1,6 @@
 // 27: whether things and cells are a matrix that some reading gives. Of the scheme its head is enough.
 #![tactic(auto)]
+
 ghost use Rattle.std.specs.Prelude.{◌≡◌, cond, not, ◌&&◌, ◌<◌, eqb, leb, length, get_or};
 ghost use Rattle.rights.specs.Numberings.{type_below, zero_type};
 ghost use Rattle.model.specs.Seats.{thing_in, matrix_of};

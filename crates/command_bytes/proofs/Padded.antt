@@ -1,10 +1,10 @@
 -- An array with zeros behind its used places is a list followed by zeros: once for all element types, then of a command and of a scheme's commands.
 -- Assumes nothing.
-use Prim.Native.Nat.{ℕ, ◌-◌, ◌≤◌}
+use Prim.Native.Nat.{ℕ, ◌≤◌}
 use native.Mathlib.Omega.{arith}
 use mathlib.Core.Path.{◌≡◌, refl, ◌∙◌}
 use mathlib.Core.Bool.{Bool, false, not}
-use lib.Dec.{T, eqb, eqb→eq}
+use lib.Dec.{T, eqb→eq}
 use lib.ListN.{length}
 use Rattle.model.proofs.Built.{zero_built}
 use Rattle.model.specs.Scheme.{parameters_of, tests_of, operations_of, no_type, no_test, no_operation}

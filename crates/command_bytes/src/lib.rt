@@ -1,5 +1,6 @@
 // A scheme's records from bytes, one by one: its head, and a command. `scheme_bytes` puts them together, so that a change of it rechecks none of this.
 #![tactic(auto)]
+
 mod answers;
 mod command;
 mod fields;

@@ -1,6 +1,7 @@
 // Numbers and lines as text, put in a lent buffer; what is past its end is dropped. Each function gives the position behind what it put, for the next one.
 // And the id that a word names.
 #![tactic(auto)]
+
 mod ids;
 
 ghost use Rattle.std.specs.Prelude.{ℕ, ◌≡◌, List, [], ◌∷◌, ◌++◌};

@@ -9,7 +9,7 @@ use lib.Dec.{T, leb}
 use lib.ListN.{length}
 use lib.Seq.{drop-length}
 use borrow.Author.Tests.{leb-true, leb-false}
-use Rattle.laws.specs.Check.{passes, between}
+use Rattle.laws.specs.Check.{passes}
 use Rattle.model.specs.Seats.{Matrix, known, seat, paper_things, stands_for}
 use Rattle.model.specs.Accepted.{head_fault, accepted_scheme}
 use Rattle.model.specs.declared.Head.{Head}

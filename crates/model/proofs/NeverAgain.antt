@@ -1,7 +1,7 @@
 -- No id is ever created twice: the promise `NeverAgain`. What a run creates is above the highest before it, and the highest never falls.
 -- Assumes nothing.
 use Prim.Native.Nat.{ℕ, suc, ◌≤◌, ◌<◌, max}
-use mathlib.Core.Path.{◌≡◌, refl, sym, ◌∙◌}
+use mathlib.Core.Path.{◌≡◌, refl}
 use mathlib.Core.Bool.{Bool, true, false, not, cond}
 use mathlib.Core.Option.{Option, none, some}
 use mathlib.Core.List.{List, [], ◌∷◌, ◌++◌, append_assoc}
@@ -14,7 +14,7 @@ use Rattle.rights.specs.declared.ThingType.{ThingType}
 use Rattle.laws.specs.Check.{passes, is_some}
 use Rattle.laws.proofs.Bools.{and_right, and_both, first_pass, must_pass}
 use Rattle.model.specs.Scheme.{commands_of, type_at, id_at, is_create}
-use Rattle.model.specs.Request.{Request, Thing, of_type, View, Outcome, done, refused, after, unless_fault, and_then, act, operate, operate_all, carry_out, carry_out_if, step, run}
+use Rattle.model.specs.Request.{Request, Thing, of_type, Outcome, done, refused, after, unless_fault, and_then, act, operate, operate_all, carry_out, carry_out_if, step, run}
 use Rattle.model.specs.Papers.{Population, State, may_create, now_is, now_has, reached, born, gone, papers}
 use Rattle.model.specs.Seats.{Matrix, seats, seat, paper_things, stands_for}
 use Rattle.model.specs.Accepted.{accepted_scheme, accepted_matrix}
@@ -26,7 +26,6 @@ use Rattle.model.specs.declared.Operation.{Operation}
 use Rattle.model.specs.declared.Command.{Command}
 use Rattle.model.specs.declared.Scheme.{Scheme}
 use Rattle.model.specs.declared.Refusal.{Refusal}
-use Rattle.model.specs.declared.Things.{Things}
 use Rattle.model.proofs.Invariant.{IfDone, is_done, unless_done, run_keeps}
 use Rattle.model.proofs.Stands.{absent}
 use Rattle.model.proofs.HeldLaws.{held, ids_below}

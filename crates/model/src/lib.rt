@@ -1,4 +1,6 @@
 // The plain data of the outline: a scheme with its commands, the things of a matrix, and what a request is answered.
+#![tactic(auto)]
+
 use rights::{Parameter, Right, ThingType, TypeSet};
 
 // "right present in [row, column]", or absent from it.

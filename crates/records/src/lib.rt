@@ -1,5 +1,6 @@
 // Records: the front of one, its body lent back, its fields, and the writer's side. Every function takes any bytes and any position.
 #![tactic(auto)]
+
 ghost use Rattle.std.specs.Prelude.{◌≡◌, List, ℕ, ◌+◌, ◌*◌, ◌<◌, ◌≤◌, length, drop, set};
 ghost use Rattle.std.proofs.lemmas.List.Edits.{sets};
 ghost use Rattle.records.specs.Bytes.{little_endian, record_bytes, number2, part};

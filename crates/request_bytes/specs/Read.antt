@@ -1,7 +1,7 @@
 -- Reading a request's record at a position of a list; the end of the list is its own answer.
 -- Assumes nothing.
 use Rattle.std.specs.Prelude.{ℕ, ◌-◌, cond, List, [], ◌++◌, eqb, length, take, replicate}
-use Rattle.records.specs.Reading.{Read, got, fault, Body, ◌>>=◌, ◌>>◌, done, steps, byte, field, number}
+use Rattle.records.specs.Reading.{Read, got, fault, Body, ◌>>=◌, done, steps, byte, field, number}
 use Rattle.records.specs.Front.{Refusal, in_record}
 use Rattle.request_bytes.specs.declared.answers.Request.{Request}
 use Rattle.request_bytes.specs.declared.answers.RequestReading.TheVariants.{Done, End, Refused}

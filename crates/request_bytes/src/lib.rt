@@ -1,5 +1,6 @@
 // A request's record: read at a position of a list, and written at a position of a buffer.
 #![tactic(auto)]
+
 mod answers;
 mod read;
 mod write;

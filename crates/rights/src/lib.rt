@@ -1,5 +1,6 @@
 // Rights, types and parameters are three numberings, each a struct of its own; a set of rights goes by value.
 #![tactic(auto)]
+
 ghost use Rattle.std.specs.Prelude.{◌≡◌, eqb};
 ghost use Rattle.rights.specs.Sets.{has, single, enter_right, delete_right, all_rights, complement, count_rights, within};
 ghost use Rattle.rights.specs.Numberings.{right_below, type_below, parameter_below, same_type, same_parameter, zero_right, zero_type, zero_parameter, right_byte, type_byte, parameter_byte, partner_of};

@@ -1,6 +1,7 @@
 // A scheme from bytes: the records that `command_bytes` reads, one behind the other, and the end. Its writer stands in `scheme_write`, so that a change of
 // one rechecks only that one.
 #![tactic(auto)]
+
 mod answers;
 mod none;
 mod read;

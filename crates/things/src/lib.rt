@@ -1,5 +1,6 @@
 // The things of a matrix by seat: none, the seat of an id, a thing put at a seat, by which the highest id may rise; and cells copied.
 #![tactic(auto)]
+
 ghost use Rattle.std.specs.Prelude.{◌≡◌, take, max};
 ghost use Rattle.std.proofs.lemmas.List.Edits.{sets};
 ghost use Rattle.model.specs.Seats.{find, no_things, put_thing};

@@ -1,10 +1,6 @@
 -- Each id passed that isn't 0 was found at its own seat; the first that isn't shows that two are one.
 use Prim.Native.Nat.{◌≤◌, ◌-◌}
-use mathlib.Core.Path.{sym, ◌∙◌}
-use mathlib.Core.Logic.{⊎_elim}
-use native.Mathlib.Omega.{arith}
-use borrow.Author.Rules.{rules}
-use Rattle.accepted_matrix.proofs.MatrixLaws.{OnceTo, once_free, once_found, once_out, once_end}
+use Rattle.accepted_matrix.proofs.MatrixLaws.{OnceTo}
 use Rattle.accepted_matrix.proofs.ids_apart.Given as goal
 
 abbrev pub invariant-loop-i : goal.invariant-loop-i

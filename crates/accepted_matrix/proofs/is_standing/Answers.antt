@@ -1,5 +1,4 @@
 -- The three tests are the three conjuncts of `standing`, in its order.
-use borrow.Author.Rules.{rules}
 use Rattle.model.specs.Scheme.{is_subject}
 use Rattle.model.specs.Accepted.{standing}
 use Rattle.accepted_matrix.proofs.is_standing.Goals as goal

@@ -1,6 +1,5 @@
 -- The three tests are the three conjuncts of `accepted_matrix`; the cells' number is looked at first.
 use mathlib.Core.Bool.{and-true, and-false}
-use borrow.Author.Rules.{rules}
 use borrow.Author.Tests.{eq-eqb, ne_eqb}
 use Rattle.model.specs.Accepted.{accepted_matrix}
 use Rattle.accepted_matrix.proofs.matrix_accepted.Goals as goal

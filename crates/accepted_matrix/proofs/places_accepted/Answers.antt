@@ -1,8 +1,6 @@
 -- The walk over the places carries along whether all were accepted.
-use Prim.Native.Nat.{◌-◌}
-use mathlib.Core.Logic.{⊎_elim}
 use borrow.Author.Rules.{rules}
-use Rattle.accepted_matrix.proofs.MatrixLaws.{Places, places_start, place_empty, place_full, places_end}
+use Rattle.accepted_matrix.proofs.MatrixLaws.{places_start, place_empty, place_full, places_end}
 use Rattle.accepted_matrix.proofs.places_accepted.Goals as goal
 use Rattle.accepted_matrix.proofs.places_accepted.Goals.{else-c-ne0, then-c-ne0}
 

@@ -1,5 +1,4 @@
 -- Each way out is a case of the definition.
-use borrow.Author.Rules.{rules}
 use borrow.Author.Tests.{eq-eqb, ne_eqb}
 use Rattle.accepted_matrix.proofs.seat_accepted.Goals as goal
 

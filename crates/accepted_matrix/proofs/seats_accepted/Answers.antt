@@ -1,9 +1,7 @@
 -- The walk over the seats carries along whether all were accepted.
-use Prim.Native.Nat.{◌-◌}
-use borrow.Author.Rules.{rules}
 use Rattle.model.specs.Seats.{thing_in}
 use Rattle.model.specs.Accepted.{zero_thing, accepted_seat}
-use Rattle.accepted_matrix.proofs.MatrixLaws.{seat_fine, Seats, seats_start, seats_on, seats_end}
+use Rattle.accepted_matrix.proofs.MatrixLaws.{seats_start, seats_on, seats_end}
 use Rattle.accepted_matrix.proofs.seats_accepted.Goals as goal
 
 pub loop-i-init : goal.loop-i-init

@@ -1,7 +1,6 @@
 -- `lines::put_byte` meets its contract: the byte is stored, and the position goes on where there is a larger one.
 -- Assumes nothing.
 use native.Mathlib.Omega.{arith}
-use borrow.Author.Rules.{rules}
 use Rattle.lines.proofs.PutLaws.{put_one}
 use Rattle.lines.proofs.put_byte.Goals as goal
 

@@ -1,13 +1,9 @@
 -- `lines::put_line` meets its contract: after j turns, what is left to put is the line from number j on.
 -- Assumes nothing.
 use Prim.Native.Nat.{◌-◌, ◌≤◌}
-use native.Mathlib.Omega.{arith}
-use mathlib.Core.Logic.{⊎_elim}
 use lib.ListN.{length, drop}
-use borrow.Author.Rules.{rules}
 use Rattle.lines.specs.Lines.{line}
-use Rattle.lines.proofs.PutLaws.{Left, left_all, left_on, left_none}
-use Rattle.lines.proofs.LineLaws.{line_on, line_end, line_done}
+use Rattle.lines.proofs.PutLaws.{Left}
 use Rattle.lines.proofs.put_line.Given as goal
 
 abbrev pub invariant-loop-j : goal.invariant-loop-j

@@ -1,12 +1,10 @@
 -- `lines::put_text` meets its contract: after j turns, what is left to put is what remains of the text.
 -- Assumes nothing.
-use Prim.Native.Nat.{ℕ, ◌-◌, ◌≤◌}
+use Prim.Native.Nat.{ℕ}
 use native.Mathlib.Omega.{arith}
 use mathlib.Core.Path.{refl}
-use lib.ListN.{length, drop}
-use borrow.Author.Rules.{rules}
 use Rattle.laws.proofs.Walks.{turn, ended}
-use Rattle.lines.proofs.PutLaws.{Left, left_all, left_on, left_none}
+use Rattle.lines.proofs.PutLaws.{left_all, left_on, left_none}
 use Rattle.lines.proofs.put_text.Goals as goal
 
 pub loop-j-init : goal.loop-j-init

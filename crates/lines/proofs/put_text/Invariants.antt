@@ -1,12 +1,8 @@
 -- `lines::put_text` meets its contract: after j turns, what is left to put is what remains of the text.
 -- Assumes nothing.
-use Prim.Native.Nat.{ℕ, ◌-◌, ◌≤◌}
-use native.Mathlib.Omega.{arith}
-use mathlib.Core.Path.{refl}
+use Prim.Native.Nat.{◌-◌, ◌≤◌}
 use lib.ListN.{length, drop}
-use borrow.Author.Rules.{rules}
-use Rattle.laws.proofs.Walks.{turn, ended}
-use Rattle.lines.proofs.PutLaws.{Left, left_all, left_on, left_none}
+use Rattle.lines.proofs.PutLaws.{Left}
 use Rattle.lines.proofs.put_text.Given as goal
 
 abbrev pub invariant-loop-j : goal.invariant-loop-j

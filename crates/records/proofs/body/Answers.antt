@@ -1,6 +1,5 @@
 -- `records::body` meets its contract: of a part that runs past the end, what there is of it.
 -- Assumes nothing.
-use borrow.Author.Rules.{rules}
 use Rattle.records.proofs.FrontLaws.{part_none, part_short, part_whole}
 use Rattle.records.proofs.body.Goals as goal
 

@@ -1,7 +1,6 @@
 -- `records::byte_at` meets its contract: it is what the reader of a byte gives there.
 -- Assumes nothing.
 use mathlib.Core.Path.{sym, ap}
-use borrow.Author.Rules.{rules}
 use Rattle.records.specs.Reading.{as_field}
 use Rattle.records.proofs.FieldLaws.{byte_end, byte_there}
 use Rattle.records.proofs.byte_at.Goals as goal

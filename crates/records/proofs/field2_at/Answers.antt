@@ -1,7 +1,6 @@
 -- `records::field2_at` meets its contract: it is what the reader of a number of two bytes gives there.
 -- Assumes nothing.
 use native.Mathlib.Omega.{arith}
-use borrow.Author.Rules.{rules}
 use Rattle.records.proofs.FieldLaws.{two_end, two_there}
 use Rattle.records.proofs.field2_at.Goals as goal
 

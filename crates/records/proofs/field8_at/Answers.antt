@@ -1,7 +1,6 @@
 -- `records::field8_at` meets its contract: two numbers of four bytes joined are the reader's number of eight.
 -- Assumes nothing.
 use native.Mathlib.Omega.{arith}
-use borrow.Author.Rules.{rules}
 use Rattle.records.proofs.FieldLaws.{eight_end, eight_there}
 use Rattle.records.proofs.field8_at.Goals as goal
 

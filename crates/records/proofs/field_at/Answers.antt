@@ -1,7 +1,6 @@
 -- `records::field_at` meets its contract: it is what the reader of the field gives there, in the reader's order of tests.
 -- Assumes nothing.
 use mathlib.Core.Path.{sym, ap}
-use borrow.Author.Rules.{rules}
 use Rattle.records.specs.Reading.{as_field}
 use Rattle.records.proofs.FieldLaws.{field_end, field_low, field_limit, field_there}
 use Rattle.records.proofs.field_at.Goals as goal

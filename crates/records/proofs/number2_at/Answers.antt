@@ -1,6 +1,5 @@
 -- `records::number2_at` meets its contract: two bytes joined are `number2`.
 -- Assumes nothing.
-use borrow.Author.Rules.{rules}
 use Rattle.records.specs.Bytes.{number2}
 use Rattle.records.proofs.number2_at.Goals as goal
 

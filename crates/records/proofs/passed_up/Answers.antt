@@ -1,7 +1,6 @@
 -- `records::passed_up` meets its contract: a refusal keeps its number and its position.
 -- Assumes nothing.
 use mathlib.Core.Path.{sym, ap}
-use borrow.Author.Rules.{rules}
 use Rattle.records.specs.Front.{passed_up}
 use Rattle.records.proofs.passed_up.Goals as goal
 

@@ -1,7 +1,6 @@
 -- `records::put4` meets its contract: the bytes of a number are those of its halves.
 -- Assumes nothing.
 use mathlib.Core.Path.{sym}
-use borrow.Author.Rules.{rules}
 use Rattle.records.specs.Bytes.{little_endian}
 use Rattle.records.proofs.BytesLaws.{put_halves, sets_out}
 use Rattle.records.proofs.put4.Goals as goal

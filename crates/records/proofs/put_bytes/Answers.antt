@@ -1,12 +1,9 @@
 -- `records::put_bytes` meets its contract: after j turns, what is left to store is what remains of the bytes.
 -- Assumes nothing.
-use Prim.Native.Nat.{◌+◌, ◌-◌, ◌≤◌}
 use native.Mathlib.Omega.{arith}
 use native.Mathlib.Nat.{add-zero}
-use mathlib.Core.Path.{◌≡◌, refl, sym, ◌∙◌}
-use lib.ListN.{length, drop, length-set}
-use lib.Seq.{sets}
-use borrow.Author.Rules.{rules}
+use mathlib.Core.Path.{refl, sym, ◌∙◌}
+use lib.ListN.{length-set}
 use Rattle.records.proofs.BytesLaws.{sets_next, sets_all}
 use Rattle.records.proofs.put_bytes.Goals as goal
 

@@ -1,6 +1,5 @@
 -- `records::put_front` meets its contract: the two stores, one after the other.
 -- Assumes nothing.
-use borrow.Author.Rules.{rules}
 use Rattle.records.proofs.put_front.Goals as goal
 
 pub returns : goal.returns

@@ -1,7 +1,6 @@
 -- `records::put_record` meets its contract: a front and a body stored one behind the other are a record's bytes.
 -- Assumes nothing.
 use mathlib.Core.Path.{refl, ◌∙◌}
-use borrow.Author.Rules.{rules}
 use Rattle.records.proofs.BytesLaws.{record_stored}
 use Rattle.records.proofs.put_record.Goals as goal
 

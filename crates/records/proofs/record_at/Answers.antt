@@ -2,7 +2,6 @@
 -- Assumes nothing.
 use native.Mathlib.Omega.{arith}
 use mathlib.Core.Path.{sym, ◌∙◌}
-use borrow.Author.Rules.{rules}
 use borrow.Author.Tests.{not-true, not-false}
 use Rattle.records.proofs.FrontLaws.{record_short, record_kind, record_past, record_whole}
 use Rattle.records.proofs.record_at.Goals as goal

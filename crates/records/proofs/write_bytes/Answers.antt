@@ -2,7 +2,6 @@
 -- Assumes nothing.
 use native.Mathlib.Omega.{arith}
 use mathlib.Core.Path.{refl}
-use borrow.Author.Rules.{rules}
 use Rattle.records.proofs.PlacedLaws.{write_short, write_done}
 use Rattle.records.proofs.write_bytes.Goals as goal
 

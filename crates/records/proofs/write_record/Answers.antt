@@ -2,7 +2,6 @@
 -- Assumes nothing.
 use native.Mathlib.Omega.{arith}
 use mathlib.Core.Path.{◌∙◌}
-use borrow.Author.Rules.{rules}
 use Rattle.records.proofs.BytesLaws.{length_record}
 use Rattle.records.proofs.PlacedLaws.{write_short, write_done, record_long, record_fits}
 use Rattle.records.proofs.write_record.Goals as goal

@@ -1,12 +1,8 @@
 -- What is left to copy decides what stands there in the end.
-use Prim.Native.Nat.{ℕ, ◌+◌, ◌-◌, ◌≤◌}
-use mathlib.Core.Path.{◌≡◌, refl, sym, ap, ◌∙◌}
-use mathlib.Core.Logic.{⊎_elim}
-use mathlib.Core.List.{List}
-use lib.ListN.{length, drop, length-set}
+use Prim.Native.Nat.{◌-◌, ◌≤◌}
+use mathlib.Core.Path.{◌≡◌}
+use lib.ListN.{length, drop}
 use lib.Seq.{sets}
-use borrow.Author.Rules.{rules}
-use Rattle.things.proofs.SeatLaws.{copy_in, copy_past, copy_end}
 use Rattle.things.proofs.copy_cells.Given as goal
 
 abbrev pub invariant-loop-k : goal.invariant-loop-k

@@ -1,15 +1,14 @@
 -- After i turns the seat is i and what is found behind; no more seats are looked at than there are.
-use Prim.Native.Nat.{ℕ, min, ◌-◌, ◌≤◌}
+use Prim.Native.Nat.{ℕ, min}
 use native.Mathlib.Nat.{zero-add}
 use native.Mathlib.Omega.{arith}
 use mathlib.Core.List.{List}
-use mathlib.Core.Logic.{⊎_elim}
 use mathlib.Core.Path.{◌≡◌, ap, ◌∙◌}
 use lib.ListN.{take}
 use borrow.Author.Rules.{rules}
-use Rattle.laws.proofs.Walks.{Walk, start, on, out, end, take_least}
+use Rattle.laws.proofs.Walks.{start, on, out, end, take_least}
 use Rattle.model.specs.Seats.{find}
-use Rattle.things.proofs.SeatLaws.{seat_from, seat_on, seat_here, seat_none}
+use Rattle.things.proofs.SeatLaws.{seat_on, seat_here, seat_none}
 use Rattle.things.proofs.seat_in.Goals as goal
 use Rattle.things.proofs.seat_in.Goals.{else-n-most, then-n-most}
 

@@ -1,15 +1,9 @@
 -- After i turns the seat is i and what is found behind; no more seats are looked at than there are.
-use Prim.Native.Nat.{ℕ, min, ◌-◌, ◌≤◌}
-use native.Mathlib.Nat.{zero-add}
-use native.Mathlib.Omega.{arith}
-use mathlib.Core.List.{List}
-use mathlib.Core.Logic.{⊎_elim}
-use mathlib.Core.Path.{◌≡◌, ap, ◌∙◌}
+use Prim.Native.Nat.{◌-◌, ◌≤◌}
 use lib.ListN.{take}
-use borrow.Author.Rules.{rules}
-use Rattle.laws.proofs.Walks.{Walk, start, on, out, end, take_least}
+use Rattle.laws.proofs.Walks.{Walk}
 use Rattle.model.specs.Seats.{find}
-use Rattle.things.proofs.SeatLaws.{seat_from, seat_on, seat_here, seat_none}
+use Rattle.things.proofs.SeatLaws.{seat_from}
 use Rattle.things.proofs.seat_in.Given as goal
 
 abbrev pub invariant-loop-i : goal.invariant-loop-i

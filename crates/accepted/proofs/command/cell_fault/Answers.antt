@@ -1,6 +1,5 @@
 -- The chain of checks is the definition's.
 use mathlib.Core.Path.{ap, ◌∙◌}
-use borrow.Author.Rules.{rules}
 use Rattle.model.specs.Scheme.{is_subject}
 use Rattle.model.specs.Accepted.{row_fault}
 use Rattle.rights.specs.Sets.{has}

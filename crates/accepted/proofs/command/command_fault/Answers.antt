@@ -1,5 +1,4 @@
 -- A command: its parameters, its tests and its operations in turn, and the first fault decides.
-use borrow.Author.Rules.{rules}
 use Rattle.accepted.proofs.SchemeLaws.{parameters_out, tests_out, operations_left}
 use Rattle.accepted.proofs.command.command_fault.Goals as goal
 

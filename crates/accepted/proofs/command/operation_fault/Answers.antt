@@ -1,6 +1,5 @@
 -- An operation: its group, and then what its code asks.
 use native.Mathlib.Omega.{arith}
-use borrow.Author.Rules.{rules}
 use Rattle.model.specs.Accepted.{code_fault}
 use Rattle.model.specs.declared.Code.TheVariants.{Create, Destroy}
 use Rattle.accepted.proofs.SchemeLaws.{in_group, in_change, out_group}

@@ -1,15 +1,11 @@
 -- The count, and then the walk over the operations in use, which stops at the first that has a fault; those passed are the ones before.
 use Prim.Native.Nat.{◌-◌, ◌≤◌}
-use mathlib.Core.Path.{sym, ◌∙◌}
 use mathlib.Core.List.{[]}
-use native.Mathlib.Omega.{arith}
-use borrow.Author.Rules.{rules}
 use Rattle.laws.specs.Check.{◌or_else◌, must, between}
-use Rattle.laws.proofs.Walks.{long, Walk, start, on, out, end}
-use Rattle.model.specs.Scheme.{no_operation, parameters_of, tests_of, operations_of}
+use Rattle.laws.proofs.Walks.{Walk}
+use Rattle.model.specs.Scheme.{parameters_of, tests_of, operations_of}
 use Rattle.model.specs.Accepted.{operations_fault}
 use Rattle.accepted.specs.Answers.{as_checked, before}
-use Rattle.accepted.proofs.SchemeLaws.{told_fine, told_fault, out_of_limits, at_most, in_limits, over_on, over_out}
 use Rattle.accepted.proofs.command.operations_fault.Given as goal
 
 abbrev pub invariant-loop-i : goal.invariant-loop-i

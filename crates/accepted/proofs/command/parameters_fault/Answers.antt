@@ -1,5 +1,4 @@
 -- The count, and then the types: the first that is none of the scheme's has the same fault as any other.
-use borrow.Author.Rules.{rules}
 use Rattle.model.specs.Accepted.{type_range}
 use Rattle.accepted.proofs.SchemeLaws.{first, then, first_must}
 use Rattle.accepted.proofs.command.parameters_fault.Goals as goal

@@ -1,15 +1,12 @@
 -- The count, and then the walk over the tests in use, which stops at the first that has a fault.
-use Prim.Native.Nat.{◌-◌}
 use mathlib.Core.Path.{sym, ◌∙◌}
 use native.Mathlib.Omega.{arith}
 use borrow.Author.Rules.{rules}
 use borrow.Author.Tests.{le-leb, lt-leb}
-use lib.Dec.{leb}
 use Rattle.laws.specs.Check.{must, ◌or_else◌, first_fault}
-use Rattle.laws.proofs.Walks.{long, Walk, start, on, out, end}
-use Rattle.model.specs.Scheme.{no_test, parameters_of, tests_of}
+use Rattle.laws.proofs.Walks.{long, start, on, out, end}
+use Rattle.model.specs.Scheme.{no_test}
 use Rattle.model.specs.Accepted.{test_fault}
-use Rattle.accepted.specs.Answers.{as_checked}
 use Rattle.accepted.proofs.SchemeLaws.{told_fine, told_fault, first_on, first_out}
 use Rattle.accepted.proofs.command.tests_fault.Goals as goal
 

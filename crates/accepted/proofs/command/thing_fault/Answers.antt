@@ -1,6 +1,5 @@
 -- The chain of checks is the definition's.
 use mathlib.Core.Path.{refl}
-use borrow.Author.Rules.{rules}
 use Rattle.model.specs.Accepted.{thing_fault}
 use Rattle.accepted.proofs.SchemeLaws.{first, then, or_later}
 use Rattle.accepted.proofs.command.thing_fault.Goals as goal

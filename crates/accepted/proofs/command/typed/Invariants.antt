@@ -1,13 +1,9 @@
 -- The walk over the parameters in use carries along whether each had such a type.
 use Prim.Native.Nat.{◌-◌}
-use mathlib.Core.Path.{refl}
-use native.Mathlib.Omega.{arith}
-use borrow.Author.Rules.{rules}
 use Rattle.rights.specs.Numberings.{type_below}
 use Rattle.laws.specs.Check.{all}
-use Rattle.laws.proofs.Walks.{long, Carried, carried, arrived}
-use Rattle.model.specs.Scheme.{no_type, parameters_of}
-use Rattle.accepted.proofs.FormLaws.{begin}
+use Rattle.laws.proofs.Walks.{Carried}
+use Rattle.model.specs.Scheme.{parameters_of}
 use Rattle.accepted.proofs.command.typed.Given as goal
 
 abbrev pub invariant-loop-i : goal.invariant-loop-i

@@ -1,5 +1,4 @@
 -- A parameter that is created is named by no test and by no create before.
-use borrow.Author.Rules.{rules}
 use Rattle.model.specs.Scheme.{creatable}
 use Rattle.accepted.proofs.FormLaws.{creates_group}
 use Rattle.accepted.proofs.form.creatable.Goals as goal

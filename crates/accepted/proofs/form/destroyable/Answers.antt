@@ -1,5 +1,4 @@
 -- A parameter that is destroyed is named by no destroy before.
-use borrow.Author.Rules.{rules}
 use Rattle.model.specs.Scheme.{destroyable}
 use Rattle.accepted.proofs.FormLaws.{destroys_group}
 use Rattle.accepted.proofs.form.destroyable.Goals as goal

@@ -1,14 +1,11 @@
 -- The walk over the first n operations carries along whether none was of the group with the parameter. `before` has them the last first, which is
 -- the same to `any`.
-use Prim.Native.Nat.{◌-◌}
 use mathlib.Core.Path.{◌∙◌, ap}
 use mathlib.Core.Bool.{not}
 use native.Mathlib.Omega.{arith}
 use borrow.Author.Rules.{rules}
-use Rattle.laws.specs.Check.{any}
-use Rattle.laws.proofs.Walks.{long, Carried, carried, arrived, any_reverse}
+use Rattle.laws.proofs.Walks.{long, carried, arrived, any_reverse}
 use Rattle.model.specs.Scheme.{no_operation}
-use Rattle.accepted.specs.Answers.{before}
 use Rattle.accepted.specs.Inner.Parts.{in_group}
 use Rattle.accepted.proofs.FormLaws.{begin, none_any}
 use Rattle.accepted.proofs.form.not_before.Goals as goal

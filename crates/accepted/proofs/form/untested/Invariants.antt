@@ -1,12 +1,9 @@
 -- The walk over the tests in use carries along whether none has named the parameter.
 use Prim.Native.Nat.{◌-◌}
 use mathlib.Core.Bool.{not}
-use native.Mathlib.Omega.{arith}
-use borrow.Author.Rules.{rules}
 use Rattle.laws.specs.Check.{any}
-use Rattle.laws.proofs.Walks.{long, Carried, carried, arrived}
-use Rattle.model.specs.Scheme.{no_test, names, tests_of}
-use Rattle.accepted.proofs.FormLaws.{begin, none_any}
+use Rattle.laws.proofs.Walks.{Carried}
+use Rattle.model.specs.Scheme.{names, tests_of}
 use Rattle.accepted.proofs.form.untested.Given as goal
 
 abbrev pub invariant-loop-i : goal.invariant-loop-i

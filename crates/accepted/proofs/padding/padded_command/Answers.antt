@@ -1,5 +1,4 @@
 -- A command is padded if its three arrays are.
-use borrow.Author.Rules.{rules}
 use Rattle.model.specs.Accepted.{padded_command}
 use Rattle.accepted.proofs.padding.padded_command.Goals as goal
 

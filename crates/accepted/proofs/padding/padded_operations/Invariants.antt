@@ -1,9 +1,7 @@
 -- The walk over the operations behind those in use carries along whether all were zero.
 use Prim.Native.Nat.{◌-◌}
-use native.Mathlib.Omega.{arith}
-use borrow.Author.Rules.{rules}
 use Rattle.laws.specs.Check.{padded}
-use Rattle.laws.proofs.Walks.{long, Carried, carried, arrived, behind}
+use Rattle.laws.proofs.Walks.{Carried}
 use Rattle.model.specs.Accepted.{zero_operation}
 use Rattle.accepted.proofs.padding.padded_operations.Given as goal
 

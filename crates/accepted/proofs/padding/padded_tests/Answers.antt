@@ -1,10 +1,7 @@
 -- The walk over the tests behind those in use carries along whether all were zero.
-use Prim.Native.Nat.{◌-◌}
 use native.Mathlib.Omega.{arith}
 use borrow.Author.Rules.{rules}
-use Rattle.laws.specs.Check.{padded}
-use Rattle.laws.proofs.Walks.{long, Carried, carried, arrived, behind}
-use Rattle.model.specs.Accepted.{zero_test}
+use Rattle.laws.proofs.Walks.{long, carried, arrived, behind}
 use Rattle.accepted.proofs.padding.padded_tests.Goals as goal
 
 pub loop-i-init : goal.loop-i-init

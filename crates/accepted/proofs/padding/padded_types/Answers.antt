@@ -1,10 +1,7 @@
 -- The walk over the types behind those in use carries along whether all were zero.
-use Prim.Native.Nat.{◌-◌}
 use native.Mathlib.Omega.{arith}
 use borrow.Author.Rules.{rules}
-use Rattle.rights.specs.Numberings.{zero_type}
-use Rattle.laws.specs.Check.{padded}
-use Rattle.laws.proofs.Walks.{long, Carried, carried, arrived, behind}
+use Rattle.laws.proofs.Walks.{long, carried, arrived, behind}
 use Rattle.model.specs.Scheme.{no_type}
 use Rattle.accepted.proofs.padding.padded_types.Goals as goal
 

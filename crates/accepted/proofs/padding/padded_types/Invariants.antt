@@ -1,11 +1,8 @@
 -- The walk over the types behind those in use carries along whether all were zero.
 use Prim.Native.Nat.{◌-◌}
-use native.Mathlib.Omega.{arith}
-use borrow.Author.Rules.{rules}
 use Rattle.rights.specs.Numberings.{zero_type}
 use Rattle.laws.specs.Check.{padded}
-use Rattle.laws.proofs.Walks.{long, Carried, carried, arrived, behind}
-use Rattle.model.specs.Scheme.{no_type}
+use Rattle.laws.proofs.Walks.{Carried}
 use Rattle.accepted.proofs.padding.padded_types.Given as goal
 
 abbrev pub invariant-loop-i : goal.invariant-loop-i

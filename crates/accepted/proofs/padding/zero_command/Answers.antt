@@ -1,5 +1,4 @@
 -- A command of zeros uses none of its places.
-use borrow.Author.Rules.{rules}
 use Rattle.model.specs.Accepted.{zero_command}
 use Rattle.accepted.proofs.padding.zero_command.Goals as goal
 

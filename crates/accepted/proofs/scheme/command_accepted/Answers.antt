@@ -1,6 +1,5 @@
 -- A command is accepted if it has no fault and is padded.
 use mathlib.Core.Path.{sym, ◌∙◌}
-use borrow.Author.Rules.{rules}
 use Rattle.model.specs.Accepted.{accepted_command}
 use Rattle.accepted.proofs.SchemeLaws.{passed, refused}
 use Rattle.accepted.proofs.scheme.command_accepted.Goals as goal

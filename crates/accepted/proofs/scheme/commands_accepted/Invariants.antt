@@ -1,9 +1,7 @@
 -- The walk over all places carries along whether each was accepted.
 use Prim.Native.Nat.{◌-◌}
-use borrow.Author.Rules.{rules}
-use Rattle.laws.proofs.Walks.{long}
 use Rattle.model.specs.Accepted.{accepted_command, zero_command}
-use Rattle.accepted.proofs.SchemeLaws.{Filled, filled_start, filled_on, filled_end}
+use Rattle.accepted.proofs.SchemeLaws.{Filled}
 use Rattle.accepted.proofs.scheme.commands_accepted.Given as goal
 
 abbrev pub invariant-loop-i : goal.invariant-loop-i

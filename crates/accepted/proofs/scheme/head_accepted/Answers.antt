@@ -1,6 +1,5 @@
 -- A head is accepted if it has no fault.
 use mathlib.Core.Path.{sym, ◌∙◌}
-use borrow.Author.Rules.{rules}
 use Rattle.accepted.proofs.SchemeLaws.{passed, refused}
 use Rattle.accepted.proofs.scheme.head_accepted.Goals as goal
 

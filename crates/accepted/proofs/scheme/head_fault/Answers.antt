@@ -1,5 +1,4 @@
 -- The chain of checks is the definition's.
-use borrow.Author.Rules.{rules}
 use Rattle.model.specs.Accepted.{head_fault}
 use Rattle.accepted.proofs.SchemeLaws.{first, then, or_later}
 use Rattle.accepted.proofs.scheme.head_fault.Goals as goal

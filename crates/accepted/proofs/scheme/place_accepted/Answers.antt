@@ -1,6 +1,5 @@
 -- Each way out is a case of the definition.
 use mathlib.Core.Path.{◌∙◌}
-use borrow.Author.Rules.{rules}
 use Rattle.accepted.proofs.scheme.place_accepted.Goals as goal
 
 pub returns-then-used : goal.returns-then-used

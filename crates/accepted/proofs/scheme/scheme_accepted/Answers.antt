@@ -1,6 +1,5 @@
 -- A scheme is accepted if its head and its commands are.
 use mathlib.Core.Path.{sym, ◌∙◌}
-use borrow.Author.Rules.{rules}
 use borrow.Author.Tests.{not-true, not-false}
 use Rattle.model.specs.Accepted.{accepted_scheme}
 use Rattle.accepted.proofs.scheme.scheme_accepted.Goals as goal

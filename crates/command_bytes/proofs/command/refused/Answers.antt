@@ -1,6 +1,5 @@
 -- `command::refused` meets its contract.
 -- Assumes nothing.
-use borrow.Author.Rules.{rules}
 use Rattle.command_bytes.proofs.command.refused.Goals as goal
 
 pub returns : goal.returns

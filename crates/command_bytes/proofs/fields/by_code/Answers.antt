@@ -1,6 +1,5 @@
 -- `fields::by_code` meets its contract: the lines of `by_code`, code by code.
 -- Assumes nothing.
-use borrow.Author.Rules.{rules}
 use Rattle.command_bytes.proofs.fields.by_code.Goals as goal
 
 pub returns-in-Enter : goal.returns-in-Enter

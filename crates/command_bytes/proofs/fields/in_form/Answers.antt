@@ -1,6 +1,5 @@
 -- `fields::in_form` meets its contract.
 -- Assumes nothing.
-use borrow.Author.Rules.{rules}
 use Rattle.command_bytes.proofs.fields.in_form.Goals as goal
 
 pub returns-then-create : goal.returns-then-create

@@ -3,7 +3,6 @@
 use borrow.Author.Tests.{lt-leb, le-leb}
 use Rattle.command_bytes.proofs.Told.{tells, field_tells, named_tells}
 use Rattle.command_bytes.proofs.FieldReads.{operation_lines}
-use borrow.Author.Rules.{rules}
 use Rattle.command_bytes.proofs.fields.operation_at.Goals as goal
 
 pub returns-in_default : goal.returns-in_default

@@ -2,7 +2,6 @@
 -- Assumes nothing.
 use Rattle.command_bytes.proofs.Told.{tells, field_tells, named_tells}
 use Rattle.command_bytes.proofs.FieldReads.{test_lines}
-use borrow.Author.Rules.{rules}
 use Rattle.command_bytes.proofs.fields.test_at.Goals as goal
 
 pub returns-in_default : goal.returns-in_default

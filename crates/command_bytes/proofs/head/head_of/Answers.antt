@@ -3,7 +3,6 @@
 use borrow.Author.Tests.{not-true, not-false, lt-ltb, le-ltb}
 use Rattle.command_bytes.proofs.Told.{tells, field_tells, field2_tells}
 use Rattle.command_bytes.proofs.FieldReads.{head_lines}
-use borrow.Author.Rules.{rules}
 use Rattle.command_bytes.proofs.head.head_of.Goals as goal
 
 pub returns-in_default : goal.returns-in_default

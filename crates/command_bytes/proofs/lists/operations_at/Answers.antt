@@ -1,17 +1,13 @@
 -- `lists::operations_at` meets its contract: after j turns j operations are read, and stand at the array's start; those before the next are the state
 -- that the reader carries.
 -- Assumes nothing.
-use Prim.Native.Nat.{◌+◌, ◌*◌, ◌-◌, ◌≤◌}
+use Prim.Native.Nat.{◌+◌, ◌*◌}
 use native.Mathlib.Omega.{arith}
 use native.Mathlib.Nat.{add-zero}
-use mathlib.Core.List.{[], ◌∷◌, ◌++◌, map, map-id, reverse}
+use mathlib.Core.List.{map-id}
 use mathlib.Core.Path.{◌≡◌, sym}
-use lib.ListN.{take, drop, replicate}
 use Rattle.model.specs.Scheme.{no_operation, parameters_of, tests_of}
-use Rattle.model.specs.declared.Operation.{Operation}
-use borrow.Author.Rules.{rules}
-use Rattle.records.proofs.Loop.{Looped, looped_none, looped_on, looped_stop, looped_all, fill_next}
-use Rattle.command_bytes.specs.Read.{operation}
+use Rattle.records.proofs.Loop.{looped_none, looped_on, looped_stop, looped_all, fill_next}
 use Rattle.command_bytes.proofs.Told.{tells, operation_tells}
 use Rattle.command_bytes.proofs.ListLaws.{operation_good, operation_fault, before_next, room, looped_as}
 use Rattle.command_bytes.proofs.lists.operations_at.Goals as goal

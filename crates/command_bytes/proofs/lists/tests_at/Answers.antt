@@ -1,16 +1,12 @@
 -- `lists::tests_at` meets its contract: after j turns j tests are read, and stand at the array's start.
 -- Assumes nothing.
-use Prim.Native.Nat.{◌+◌, ◌*◌, ◌-◌, ◌≤◌}
+use Prim.Native.Nat.{◌+◌, ◌*◌}
 use native.Mathlib.Omega.{arith}
 use native.Mathlib.Nat.{add-zero}
-use mathlib.Core.List.{◌++◌, map, map-id}
+use mathlib.Core.List.{map-id}
 use mathlib.Core.Path.{◌≡◌}
-use lib.ListN.{drop, replicate}
 use Rattle.model.specs.Scheme.{no_test, parameters_of}
-use Rattle.model.specs.declared.Test.{Test}
-use borrow.Author.Rules.{rules}
-use Rattle.records.proofs.Loop.{Looped, looped_none, looped_on, looped_stop, looped_all, fill_next}
-use Rattle.command_bytes.specs.Read.{test}
+use Rattle.records.proofs.Loop.{looped_none, looped_on, looped_stop, looped_all, fill_next}
 use Rattle.command_bytes.proofs.Told.{tells, test_tells}
 use Rattle.command_bytes.proofs.ListLaws.{test_good, test_fault}
 use Rattle.command_bytes.proofs.lists.tests_at.Goals as goal

@@ -1,7 +1,6 @@
 -- `none::no_command` meets its contract.
 -- Assumes nothing.
 use Rattle.model.specs.Arrays.{command_of, no_command}
-use borrow.Author.Rules.{rules}
 use Rattle.command_bytes.proofs.none.no_command.Goals as goal
 
 pub returns : goal.returns

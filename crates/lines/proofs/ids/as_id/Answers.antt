@@ -1,6 +1,5 @@
 -- `lines::as_id` meets its contract: the comparison is the definition's.
 -- Assumes nothing.
-use borrow.Author.Rules.{rules}
 use Rattle.lines.proofs.IdLaws.{id_small, id_large}
 use Rattle.lines.proofs.ids.as_id.Goals as goal
 

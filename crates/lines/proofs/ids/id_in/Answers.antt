@@ -1,15 +1,13 @@
 -- `lines::id_in` meets its contract: after i turns what was read are digits that stand for n, and what is left decides the id.
 -- Assumes nothing.
-use Prim.Native.Nat.{◌-◌}
 use native.Mathlib.Omega.{arith}
 use mathlib.Core.Bool.{true}
 use mathlib.Core.Option.{some}
 use mathlib.Core.Path.{◌≡◌, sym, ap, ◌∙◌}
-use lib.ListN.{length, get_or}
-use borrow.Author.Rules.{rules}
+use lib.ListN.{get_or}
 use borrow.Author.Tests.{not-true, not-false}
 use Rattle.lines.specs.Ids.{is_digit, as_id_word}
-use Rattle.lines.proofs.IdLaws.{Read, digit_low, digit_high, id_empty, id_long, read_none, read_room, read_on, read_other, read_all}
+use Rattle.lines.proofs.IdLaws.{digit_low, digit_high, id_empty, id_long, read_none, read_room, read_on, read_other, read_all}
 use Rattle.lines.proofs.ids.id_in.Goals as goal
 use Rattle.lines.proofs.ids.id_in.Goals.{Else-not-is_digit}
 

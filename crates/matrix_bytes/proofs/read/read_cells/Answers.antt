@@ -1,6 +1,6 @@
 -- `matrix_bytes::read::read_cells` meets its contract: each turn reads one cell's record, which has bytes and lies in the input.
 -- Assumes nothing.
-use Prim.Native.Nat.{◌-◌, ◌<◌}
+use Prim.Native.Nat.{◌<◌}
 use native.Mathlib.Omega.{arith}
 use mathlib.Core.Path.{◌≡◌, ◌∙◌}
 use lib.Dec.{T}
@@ -8,7 +8,7 @@ use lib.ListN.{length}
 use borrow.Author.Rules.{rules}
 use Rattle.model.specs.Accepted.{accepted_head}
 use Rattle.matrix_records.proofs.ReadBack.{cell_opened, cell_read, cell_stopped, cell_after, cell_place_lem}
-use Rattle.matrix_bytes.proofs.ReadCells.{CellRead, SoFar, far_none, far_on, far_stop, far_all}
+use Rattle.matrix_bytes.proofs.ReadCells.{CellRead, far_none, far_on, far_stop, far_all}
 use Rattle.matrix_bytes.proofs.read.read_cells.Goals as goal
 use Rattle.matrix_bytes.proofs.read.read_cells.Goals.{At-loop-p, In-Good, Start}
 
@@ -18,7 +18,7 @@ good c = c.requires.0
 
 -- the cell of a turn, and that its place is one of the 2304
 read_one : (c : In-Good) →
-    let a = c.args in let l = c.loop-p in 
+    let a = c.args in let l = c.loop-p in
     CellRead a.s.now a.h a.th a.n l.over l.by l.p c.in-Good.row c.in-Good.column c.in-Good.place c.in-Good.rights c.in-Good.next
 read_one c =
     cell_read _ _ _ _ _ (c.read_cell-found.ensures ∙ cell_opened _ _ _ _ ((let it : T (accepted_head c.args.h) = c.requires.0 in it)) _ _ _) _ _ _ _ _ _ c.in-Good.is

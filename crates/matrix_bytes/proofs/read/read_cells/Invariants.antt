@@ -1,14 +1,9 @@
 -- `matrix_bytes::read::read_cells` meets its contract: each turn reads one cell's record, which has bytes and lies in the input.
 -- Assumes nothing.
-use Prim.Native.Nat.{◌-◌, ◌<◌}
-use native.Mathlib.Omega.{arith}
-use mathlib.Core.Path.{◌≡◌, ◌∙◌}
-use lib.Dec.{T}
+use Prim.Native.Nat.{◌-◌}
+use mathlib.Core.Path.{◌≡◌}
 use lib.ListN.{length}
-use borrow.Author.Rules.{rules}
-use Rattle.model.specs.Accepted.{accepted_head}
-use Rattle.matrix_records.proofs.ReadBack.{cell_opened, cell_read, cell_stopped, cell_after, cell_place_lem}
-use Rattle.matrix_bytes.proofs.ReadCells.{CellRead, SoFar, far_none, far_on, far_stop, far_all}
+use Rattle.matrix_bytes.proofs.ReadCells.{SoFar}
 use Rattle.matrix_bytes.proofs.read.read_cells.Given as goal
 
 abbrev pub invariant-loop-p : goal.invariant-loop-p

@@ -1,7 +1,6 @@
 -- `matrix_bytes::read::read_matrix` meets its contract: of an accepted scheme the head is enough.
 -- Assumes nothing.
 use mathlib.Core.Path.{sym, ◌∙◌}
-use borrow.Author.Rules.{rules}
 use borrow.Author.Tests.{not-true, not-false}
 use Rattle.laws.proofs.Bools.{from_true}
 use Rattle.matrix_bytes.proofs.ReadMatrix.{matrix_scheme, by_head}

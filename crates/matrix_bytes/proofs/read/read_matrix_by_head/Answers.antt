@@ -3,7 +3,6 @@
 use mathlib.Core.Bool.{true}
 use mathlib.Core.Path.{◌≡◌, sym, ◌∙◌}
 use lib.ListN.{length}
-use borrow.Author.Rules.{rules}
 use borrow.Author.Tests.{not-true, not-false}
 use Rattle.laws.proofs.Bools.{from_true}
 use Rattle.matrix_records.proofs.ReadBack.{head_opened, head_read_lem, head_stopped}
@@ -27,7 +26,7 @@ bytes : (c : Else-not-head_accepted) → Bytes c.args.s.now
 bytes c = λ i. (c.shared_slice_known-1.given i).fits
 
 -- once the head is read
-head-is : (c : In-Good) → let a = c.args in 
+head-is : (c : In-Good) → let a = c.args in
     head_read a.s.now a.h ≡ got (record { count = c.in-Good.count; highest = c.in-Good.highest }) c.in-Good.next
 head-is c = head_read_lem _ _ _ (c.read_head-head.ensures ∙ head_opened _ _ _ _ (from_true ((let it : accepted_head c.args.h ≡ true = sym c.head_accepted.ensures ∙ not-false _ c.if-not-head_accepted.false-raw in it)))) _ _ _ _ c.in-Good.is
 

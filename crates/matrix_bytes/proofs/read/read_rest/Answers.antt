@@ -2,7 +2,6 @@
 -- Assumes nothing.
 use native.Mathlib.Omega.{arith}
 use mathlib.Core.Path.{sym, ◌∙◌}
-use borrow.Author.Rules.{rules}
 use borrow.Author.Tests.{not-true, not-false}
 use Rattle.laws.proofs.Bools.{from_true}
 use Rattle.matrix_bytes.proofs.ReadMatrix.{rest_refused, rest_opened}

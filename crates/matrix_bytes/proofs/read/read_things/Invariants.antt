@@ -1,17 +1,11 @@
 -- `matrix_bytes::read::read_things` meets its contract: after j turns j things are read, and sit at the first seats.
 -- Assumes nothing.
 use Prim.Native.Nat.{◌≤◌, ◌-◌}
-use native.Mathlib.Omega.{arith}
-use mathlib.Core.Path.{◌≡◌, ◌∙◌}
-use lib.Dec.{T}
-use borrow.Author.Rules.{rules}
-use Rattle.model.specs.Accepted.{accepted_head}
+use mathlib.Core.Path.{◌≡◌}
 use Rattle.records.specs.Front.{in_record}
-use Rattle.records.proofs.Loop.{Looped, looped_none, looped_on, looped_stop, looped_all}
+use Rattle.records.proofs.Loop.{Looped}
 use Rattle.matrix_records.specs.Read.{thing}
-use Rattle.matrix_records.proofs.ReadBack.{thing_opened, thing_read, thing_stopped}
 use Rattle.matrix_bytes.specs.Content.{things_from}
-use Rattle.matrix_bytes.proofs.ReadThings.{things_none, things_on}
 use Rattle.matrix_bytes.proofs.read.read_things.Given as goal
 
 abbrev pub invariant-loop-j : goal.invariant-loop-j

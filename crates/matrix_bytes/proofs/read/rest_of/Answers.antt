@@ -1,10 +1,7 @@
 -- `matrix_bytes::read::rest_of` meets its contract: the things, and then the cells where these end.
 -- Assumes nothing.
-use Prim.Native.Nat.{◌≤◌}
 use mathlib.Core.List.{List}
 use mathlib.Core.Path.{◌≡◌}
-use lib.ListN.{length}
-use borrow.Author.Rules.{rules}
 use Rattle.matrix_records.proofs.Trips.{head_sized}
 use Rattle.matrix_records.specs.Content.{ThingRecord}
 use Rattle.records.proofs.Trip.{Bytes}

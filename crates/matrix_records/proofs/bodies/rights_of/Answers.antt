@@ -1,11 +1,8 @@
 -- `matrix_records::bodies::rights_of` meets its contract: its tests are the last lines of `cell`, in their order.
 -- Assumes nothing.
 use mathlib.Core.Bool.{true}
-use mathlib.Core.List.{List}
 use mathlib.Core.Path.{◌≡◌, refl, sym, ap, ◌∙◌}
 use lib.ListN.{drop}
-use Prim.Native.Nat.{ℕ}
-use borrow.Author.Rules.{rules}
 use borrow.Author.Tests.{not-true, not-false}
 use Rattle.records.specs.Reading.{got, number, as_field8}
 use Rattle.rights.specs.Sets.{within}

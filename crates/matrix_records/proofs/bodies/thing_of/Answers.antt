@@ -2,7 +2,6 @@
 -- Assumes nothing.
 use mathlib.Core.Path.{◌≡◌, refl, sym, ap, ◌∙◌}
 use lib.ListN.{drop}
-use borrow.Author.Rules.{rules}
 use Rattle.records.specs.Reading.{got, number, field}
 use Rattle.records.proofs.FieldLaws.{field_value, field2_value}
 use Rattle.matrix_records.specs.Inner.Bodies.{thing_of}

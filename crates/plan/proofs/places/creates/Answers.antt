@@ -1,7 +1,6 @@
 -- Both cases of the code.
 use mathlib.Core.Path.{sym, ◌∙◌}
 use Rattle.model.specs.Scheme.{creates}
-use borrow.Author.Rules.{rules}
 use Rattle.plan.proofs.places.creates.Goals as goal
 
 pub returns-then-is_create : goal.returns-then-is_create

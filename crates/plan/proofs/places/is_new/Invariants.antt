@@ -1,12 +1,8 @@
 -- The walk over the operations in use stops at the first that creates the parameter.
 use Prim.Native.Nat.{◌-◌}
-use mathlib.Core.Path.{◌≡◌, sym, ap, ◌∙◌}
-use native.Mathlib.Omega.{arith}
-use lib.ListN.{length}
 use Rattle.laws.specs.Check.{any}
-use Rattle.laws.proofs.Walks.{long, Walk, start, on, out, end, any_on, any_out, take_least}
-use Rattle.model.specs.Scheme.{operations_of, creates, is_new, no_operation}
-use borrow.Author.Rules.{rules}
+use Rattle.laws.proofs.Walks.{Walk}
+use Rattle.model.specs.Scheme.{operations_of, creates, is_new}
 use Rattle.plan.proofs.places.is_new.Given as goal
 
 abbrev pub invariant-loop-i : goal.invariant-loop-i

@@ -1,10 +1,10 @@
 -- The walk over the places: what is left of them, on the spots so far, decides the answer.
-use Prim.Native.Nat.{◌-◌, min, ◌<◌}
+use Prim.Native.Nat.{min, ◌<◌}
 use mathlib.Core.Path.{◌≡◌, refl, ap, ◌∙◌}
 use native.Mathlib.Omega.{arith}
 use lib.ListN.{length, take, length-set, length-take}
-use Rattle.laws.proofs.Walks.{long, Walk, start, on, out, take_least}
-use Rattle.model.specs.Scheme.{parameters_of, operations_of, no_type}
+use Rattle.laws.proofs.Walks.{long, start, on, out, take_least}
+use Rattle.model.specs.Scheme.{operations_of, no_type}
 use Rattle.plan.specs.Locate.{no_spots, spots_of, located}
 use Rattle.plan.proofs.PlaceLaws.{located_from, located_on, located_stop, located_end}
 use borrow.Author.Rules.{rules}
@@ -31,12 +31,11 @@ returns-in_default c =
     (located_stop _ _ _ _ _ (search rules) _ _ (rw c.is_new.ensures at c.spot_of-found.ensures) _ c.in_default.is)
 
 pub loop-i-preserved : goal.loop-i-preserved
-loop-i-preserved c =
-    (
-      simp length-set c.loop-i.invariant.0,
-      on c.loop-i.invariant.1 no_type (small (goal.at.loop-i-preserved c).At-loop-i c.loop-i-test.true)
-          (located_on _ _ _ _ _ (search rules) _ _ (rw c.is_new.ensures at c.spot_of-found.ensures) c.in-Done.is),
-    )
+loop-i-preserved c = (
+  simp length-set c.loop-i.invariant.0,
+  on c.loop-i.invariant.1 no_type (small (goal.at.loop-i-preserved c).At-loop-i c.loop-i-test.true)
+      (located_on _ _ _ _ _ (search rules) _ _ (rw c.is_new.ensures at c.spot_of-found.ensures) c.in-Done.is),
+)
 
 pub returns : goal.returns
 returns c =

@@ -2,7 +2,6 @@
 use mathlib.Core.Path.{◌∙◌}
 use borrow.Author.Tests.{not-true, not-false}
 use Rattle.plan.proofs.PlaceLaws.{spot_wrong, spot_held, spot_fits}
-use borrow.Author.Rules.{rules}
 use Rattle.plan.proofs.places.spot_at.Goals as goal
 
 pub returns-then-not-is : goal.returns-then-not-is

@@ -1,12 +1,9 @@
 -- The walk over the operations in use: what is left of them, on the plan so far, decides the answer.
-use Prim.Native.Nat.{◌-◌}
 use mathlib.Core.Path.{◌≡◌, ap, sym, ◌∙◌}
-use mathlib.Core.Logic.{⊎_elim}
 use native.Mathlib.Omega.{arith}
 use lib.ListN.{length}
-use borrow.Author.Tests.{not-false}
-use Rattle.laws.proofs.Walks.{long, Walk, start, on, out, end, take_least}
-use Rattle.model.specs.Scheme.{parameters_of, operations_of, no_operation}
+use Rattle.laws.proofs.Walks.{long, start, on, out, end, take_least}
+use Rattle.model.specs.Scheme.{parameters_of, no_operation}
 use Rattle.plan.specs.Plan.{plan_all}
 use Rattle.plan.proofs.PlanLaws.{planned_from, plan_over, plan_on, plan_stop}
 use borrow.Author.Rules.{rules}
@@ -28,9 +25,10 @@ returns-in_default c =
 pub loop-i-preserved : goal.loop-i-preserved
 loop-i-preserved c =
     on c.loop-i.invariant no_operation (omega arith)
-    (elim c.if-not-keeps_things.branch
-    [ then-not-keeps_things+in-Done w ↦ rw (w.things-is, w.to-is) (plan_on _ _ _ _ _ _ _ _ w.plan_one-next.ensures w.in-Done.is)
-    | else-not-keeps_things w ↦ rw (w.things-is, w.to-is) (plan_over _ _ _ _ _ _ _ (sym c.keeps_things.ensures ∙ w.if-not-keeps_things.false)) ])
+    (elim c.if-not-keeps_things.branch [
+      | then-not-keeps_things+in-Done w ↦ rw (w.things-is, w.to-is) (plan_on _ _ _ _ _ _ _ _ w.plan_one-next.ensures w.in-Done.is)
+      | else-not-keeps_things w ↦ rw (w.things-is, w.to-is) (plan_over _ _ _ _ _ _ _ (sym c.keeps_things.ensures ∙ w.if-not-keeps_things.false))
+    ])
 
 pub returns : goal.returns
 unfolding plan_all

@@ -1,15 +1,8 @@
 -- The walk over the operations in use: what is left of them, on the plan so far, decides the answer.
 use Prim.Native.Nat.{◌-◌}
-use mathlib.Core.Path.{◌≡◌, ap, sym, ◌∙◌}
-use mathlib.Core.Logic.{⊎_elim}
-use native.Mathlib.Omega.{arith}
-use lib.ListN.{length}
-use borrow.Author.Tests.{not-false}
-use Rattle.laws.proofs.Walks.{long, Walk, start, on, out, end, take_least}
-use Rattle.model.specs.Scheme.{parameters_of, operations_of, no_operation}
-use Rattle.plan.specs.Plan.{plan_all}
-use Rattle.plan.proofs.PlanLaws.{planned_from, plan_over, plan_on, plan_stop}
-use borrow.Author.Rules.{rules}
+use Rattle.laws.proofs.Walks.{Walk}
+use Rattle.model.specs.Scheme.{parameters_of, operations_of}
+use Rattle.plan.proofs.PlanLaws.{planned_from}
 use Rattle.plan.proofs.plan.plan_all.Given as goal
 
 abbrev pub invariant-loop-i : goal.invariant-loop-i

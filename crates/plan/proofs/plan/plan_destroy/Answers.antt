@@ -1,7 +1,6 @@
 -- Both ways out are `plan_destroy`'s, by who sits at the parameter's seat.
 use mathlib.Core.Path.{sym, ◌∙◌}
 use Rattle.plan.proofs.PlanLaws.{destroy_gone, destroy_done}
-use borrow.Author.Rules.{rules}
 use Rattle.plan.proofs.plan.plan_destroy.Goals as goal
 
 pub returns-then-id_in-x : goal.returns-then-id_in-x

@@ -1,6 +1,5 @@
 -- Each arm is a case of `plan_by`.
 use Rattle.plan.specs.Plan.{plan_by}
-use borrow.Author.Rules.{rules}
 use Rattle.plan.proofs.plan.plan_one.Goals as goal
 
 pub returns-in-Enter : goal.returns-in-Enter

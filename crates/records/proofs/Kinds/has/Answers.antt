@@ -1,6 +1,5 @@
 -- `records::Kinds::has` meets its contract: below 16 it is the binary digit, from 16 on there is no kind.
 -- Assumes nothing.
-use borrow.Author.Rules.{rules}
 use Rattle.records.proofs.FrontLaws.{allowed_below, allowed_above}
 use Rattle.records.proofs.Kinds.has.Goals as goal
 

@@ -1,15 +1,11 @@
 -- `request_bytes::read::ids_at` meets its contract: after j turns j ids are read, and stand at the array's start.
 -- Assumes nothing.
 use Prim.Native.Nat.{ℕ, ◌+◌, ◌*◌, ◌-◌, ◌≤◌}
-use native.Mathlib.Omega.{arith}
-use native.Mathlib.Nat.{add-zero}
-use mathlib.Core.List.{◌++◌, map, map-id}
-use mathlib.Core.Path.{◌≡◌, refl, sym, ◌∙◌}
+use mathlib.Core.List.{◌++◌, map}
+use mathlib.Core.Path.{◌≡◌}
 use lib.ListN.{drop, replicate}
-use borrow.Author.Rules.{rules}
 use Rattle.records.specs.Reading.{number}
-use Rattle.records.proofs.FieldLaws.{field2_value, field2_fault}
-use Rattle.records.proofs.Loop.{Looped, looped_none, looped_on, looped_stop, looped_all, fill_next}
+use Rattle.records.proofs.Loop.{Looped}
 use Rattle.request_bytes.proofs.read.ids_at.Given as goal
 
 abbrev pub invariant-loop-j : goal.invariant-loop-j

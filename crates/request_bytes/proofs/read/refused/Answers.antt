@@ -1,6 +1,5 @@
 -- `request_bytes::read::refused` meets its contract.
 -- Assumes nothing.
-use borrow.Author.Rules.{rules}
 use Rattle.request_bytes.proofs.read.refused.Goals as goal
 
 pub returns : goal.returns

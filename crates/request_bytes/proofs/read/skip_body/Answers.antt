@@ -1,7 +1,6 @@
 -- `request_bytes::read::skip_body` meets its contract: the number of ids and the body's length decide.
 -- Assumes nothing.
 use mathlib.Core.Path.{sym, ◌∙◌}
-use borrow.Author.Rules.{rules}
 use Rattle.request_bytes.proofs.Skip.{skip_fault, skip_off, skip_on}
 use Rattle.request_bytes.proofs.read.skip_body.Goals as goal
 

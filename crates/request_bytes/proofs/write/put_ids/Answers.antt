@@ -1,13 +1,9 @@
 -- `request_bytes::write::put_ids` meets its contract: after j turns, what is left to store is what remains of the ids' bytes.
 -- Assumes nothing.
-use Prim.Native.Nat.{◌+◌, ◌*◌, ◌-◌, ◌≤◌}
 use native.Mathlib.Omega.{arith}
 use native.Mathlib.Nat.{add-zero}
-use mathlib.Core.Path.{◌≡◌, refl, sym, ◌∙◌}
-use lib.ListN.{length, drop}
-use lib.Seq.{sets}
+use mathlib.Core.Path.{refl, sym, ◌∙◌}
 use borrow.Author.Rules.{rules}
-use Rattle.records.specs.Bytes.{little_endian, each_bytes}
 use Rattle.request_bytes.proofs.Laws.{ids_next, ids_all}
 use Rattle.request_bytes.proofs.write.put_ids.Goals as goal
 

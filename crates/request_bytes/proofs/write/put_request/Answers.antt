@@ -1,7 +1,6 @@
 -- `request_bytes::write::put_request` meets its contract: a front, two bytes and the ids stored one behind the other are a request's bytes.
 -- Assumes nothing.
 use mathlib.Core.Path.{◌∙◌}
-use borrow.Author.Rules.{rules}
 use Rattle.request_bytes.proofs.Laws.{request_stored}
 use Rattle.request_bytes.proofs.write.put_request.Goals as goal
 

@@ -2,7 +2,6 @@
 -- Assumes nothing.
 use native.Mathlib.Omega.{arith}
 use mathlib.Core.Path.{◌∙◌}
-use borrow.Author.Rules.{rules}
 use Rattle.records.proofs.PlacedLaws.{write_short, write_done}
 use Rattle.request_bytes.proofs.Laws.{length_request, ids_many, ids_few}
 use Rattle.request_bytes.proofs.write.write_request.Goals as goal

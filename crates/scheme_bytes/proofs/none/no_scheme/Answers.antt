@@ -1,6 +1,5 @@
 -- `scheme_bytes::none::no_scheme` meets its contract.
 -- Assumes nothing.
-use borrow.Author.Rules.{rules}
 use Rattle.model.specs.Arrays.{scheme_of, no_scheme}
 use Rattle.scheme_bytes.proofs.none.no_scheme.Goals as goal
 

@@ -1,6 +1,5 @@
 -- `read::no_commands` meets its contract.
 -- Assumes nothing.
-use borrow.Author.Rules.{rules}
 use Rattle.scheme_bytes.proofs.read.no_commands.Goals as goal
 
 pub returns : goal.returns

@@ -1,17 +1,14 @@
 -- `read::read_commands` meets its contract: after j turns j commands are read, and stand at the array's start.
 -- Assumes nothing.
-use Prim.Native.Nat.{◌-◌, ◌≤◌}
+use Prim.Native.Nat.{◌≤◌}
 use native.Mathlib.Omega.{arith}
-use mathlib.Core.List.{◌++◌, map, map-id}
-use mathlib.Core.Path.{◌≡◌, ◌∙◌}
+use mathlib.Core.List.{map-id}
+use mathlib.Core.Path.{◌∙◌}
 use lib.Dec.{T}
-use lib.ListN.{replicate}
 use borrow.Author.Rules.{rules}
 use Rattle.model.specs.Accepted.{accepted_head}
 use Rattle.model.specs.Arrays.{no_command}
-use Rattle.model.specs.declared.Command.{Command}
-use Rattle.records.proofs.Loop.{Looped, looped_none, looped_on, looped_stop, looped_all, fill_next}
-use Rattle.command_bytes.specs.Read.{command_at}
+use Rattle.records.proofs.Loop.{looped_none, looped_on, looped_stop, looped_all, fill_next}
 use Rattle.command_bytes.proofs.Trips.{head_fits}
 use Rattle.scheme_bytes.proofs.ReadLaws.{reading_tells, one_done, one_refused}
 use Rattle.scheme_bytes.proofs.read.read_commands.Goals as goal

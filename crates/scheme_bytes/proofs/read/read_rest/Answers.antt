@@ -3,7 +3,6 @@
 use mathlib.Core.Bool.{true}
 use mathlib.Core.Path.{◌≡◌, sym, ◌∙◌}
 use Rattle.scheme_bytes.proofs.ReadLaws.{reading_tells, head_tells, head_refused, no_head, bad_commands, bytes_behind, no_bytes_behind}
-use borrow.Author.Rules.{rules}
 use borrow.Author.Tests.{not-true, not-false}
 use Rattle.laws.proofs.Bools.{from_true}
 use Rattle.model.specs.Accepted.{accepted_head}

@@ -1,6 +1,5 @@
 -- A fault comes first; what is fine leaves the answer to the check behind it.
 use mathlib.Core.Path.{◌∙◌}
-use borrow.Author.Rules.{rules}
 use Rattle.laws.specs.Check.{◌or_else◌}
 use Rattle.accepted.proofs.checked.Checked.then_must.Goals as goal
 
