@@ -45,7 +45,6 @@ use Rattle.matrix_bytes.proofs.AcceptedTrip.{accepted_iff_read}
 use Rattle.request_list.specs.List.{list_bytes}
 use Rattle.engine.proofs.ListLaws.{replies_stored}
 use Rattle.engine.specs.List.{run_on}
-use Rattle.engine.specs.declared.answers.RunAnswer.TheVariants as ended
 use Rattle.convert.specs.Convert.{scheme_fault, matrix_fault, written_by, convert_scheme_into, convert_matrix_into}
 use Rattle.agreement.specs.Replies.{ToEach, obeyed_by, besides_steps}
 use Rattle.agreement.specs.Agreement.{left_by, CarriedOut, Doubles, FunctionsAgree}
@@ -53,7 +52,7 @@ use Rattle.agreement.specs.LibraryAgrees.{Bytes}
 use Rattle.agreement.specs.Incomplete.{Poorer, BothDo}
 use Rattle.agreement.proofs.ListsAhead.{writable, list}
 use Rattle.agreement.proofs.Runs.{asked, room, many, ran_if, ran, left_so, replied, obeys, list_room, carried_out}
-use Rattle.agreement.proofs.Obeyed.{replies, same_besides}
+use Rattle.agreement.proofs.Obeyed.{same_besides}
 
 -- ---- what a conversion that was done tells: there was no fault, and so many bytes stand in front of the buffer
 no_fault : (may : Bool) (f : Fault) → cond may f (some 27) ≡ none → T may × T (passes f)

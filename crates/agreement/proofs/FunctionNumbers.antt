@@ -36,7 +36,6 @@ use Rattle.robot.specs.Library.{writing_by}
 use Rattle.records.proofs.Faults.{fine, passed_record}
 use Rattle.command_bytes.specs.Answers.{as_head_at, as_command_at, of_head_at}
 use Rattle.matrix_records.specs.Content.{Stated, ThingRecord, CellRecord}
-use Rattle.matrix_records.specs.Read.{head}
 use Rattle.matrix_records.specs.Answers as matrix_records
 use Rattle.matrix_records.specs.Answers.{as_thing_at, as_cell_at}
 use Rattle.matrix_records.specs.Told.{of_head, of_thing, of_cell}

@@ -9,7 +9,7 @@ use lib.Dec.{T, eqb, leb}
 use lib.ListN.{length, get_or, replicate}
 use Rattle.laws.specs.Check.{any, all}
 use Rattle.laws.proofs.Bools.{is_true, and_both, or_left, or_right}
-use Rattle.model.specs.Request.{at, number, answer}
+use Rattle.model.specs.Request.{at}
 use Rattle.model.specs.Answers.{reply_width}
 use Rattle.model.specs.Seats.{Matrix, no_things}
 use Rattle.model.specs.Accepted.{accepted_head, all_from, accepted_scheme, accepted_matrix}
@@ -30,7 +30,6 @@ use Rattle.matrix_records.specs.Content.{listed}
 use Rattle.matrix_records.specs.Read.{head, thing, cell}
 use Rattle.matrix_records.specs.Answers as matrix_records
 use Rattle.matrix_records.specs.Answers.{kind_at, any_record_at, read_thing, read_cell}
-use Rattle.matrix_bytes.specs.Read.{matrix}
 use Rattle.matrix_bytes.specs.Answers.{read_matrix, read_matrix_by_head, read_rest}
 use Rattle.matrix_bytes.specs.Write.{matrix_bytes, write_matrix, write_matrix_by_head}
 use Rattle.matrix_bytes.specs.declared.answers.MatrixAnswer.{MatrixAnswer}

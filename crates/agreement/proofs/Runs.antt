@@ -11,7 +11,7 @@ use lib.Dec.{T, leb, le→leb}
 use lib.ListN.{length, take, drop}
 use lib.Seq.{take-length}
 use Rattle.laws.specs.Check.{Each}
-use Rattle.model.specs.Request.{Request, answer, run, answers}
+use Rattle.model.specs.Request.{Request, run, answers}
 use Rattle.model.specs.Answers.{reply_to, reply_each, reply_width, reply_bytes}
 use Rattle.model.specs.Papers.{papers}
 use Rattle.model.specs.Seats.{Matrix, seats, stands_for}
@@ -23,7 +23,6 @@ use Rattle.conversion.specs.Demand3.{obeyed}
 use Rattle.records.specs.Bytes.{each_bytes}
 use Rattle.records.specs.Writing.{placed}
 use Rattle.records.specs.declared.Reading.TheVariants as reading
-use Rattle.records.specs.declared.Writing.TheVariants as writing
 use Rattle.request_list.specs.List.{Listed, read_list, list_bytes}
 use Rattle.request_list.specs.Write.{Writable}
 use Rattle.request_list.proofs.ListTrips.{list_trips}

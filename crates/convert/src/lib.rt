@@ -1,5 +1,6 @@
 // A scheme, or a matrix of it, converted: as values, and as bytes.
 #![tactic(auto)]
+
 mod answers;
 mod bytes;
 mod command;

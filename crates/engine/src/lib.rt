@@ -1,5 +1,6 @@
 // One request, and a list of requests, on a lent matrix.
 #![tactic(auto)]
+
 mod answers;
 mod cells;
 mod list;

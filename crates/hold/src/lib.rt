@@ -1,5 +1,6 @@
 // Hold and release: the office sets and clears the mark of a thing, by its id. Of the cells it is only asked whether they are a matrix's.
 #![tactic(auto)]
+
 ghost use Rattle.std.specs.Prelude.{◌≡◌};
 ghost use Rattle.model.specs.Request.{refused, at};
 ghost use Rattle.hold.specs.Marking.{mark_thing, as_marked, marked_by, hold, release};

@@ -1,7 +1,6 @@
 -- One set of rights within another: a set holds itself with a right deleted, and is held by itself with a right entered.
 -- Assumes nothing.
 use Prim.Native.Nat.{ℕ}
-use lib.Dec.{T}
 use Rattle.rights.specs.Sets.{has, enter_right, delete_right}
 use Rattle.rights.proofs.Laws.{has_enter, has_delete}
 use Rattle.laws.proofs.Bools.{and_left, or_left}

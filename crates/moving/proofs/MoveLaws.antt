@@ -1,10 +1,9 @@
 -- Forward and back, as the returns of the two functions have them: what was read, and what was written of it.
 -- Assumes nothing.
 use Prim.Native.Nat.{ℕ, ◌≤◌}
-use mathlib.Core.Bool.{true, false, ◌&&◌}
+use mathlib.Core.Bool.{true, false}
 use mathlib.Core.List.{List}
-use mathlib.Core.Path.{◌≡◌, refl, sym, ap, ◌∙◌}
-use lib.Dec.{T}
+use mathlib.Core.Path.{◌≡◌, refl, ap, ◌∙◌}
 use lib.ListN.{length, replicate}
 use borrow.Author.Tests.{eq-eqb, ne_eqb}
 use Rattle.laws.proofs.Bools.{is_true, from_true}
@@ -26,10 +25,10 @@ use Rattle.matrix_bytes.specs.declared.answers.MatrixAnswer.{MatrixAnswer}
 use Rattle.matrix_bytes.proofs.RoundTrips.{head_passes}
 use Rattle.moving.specs.Old.{highest_listed, by_listed, old_content, old_matrix}
 use Rattle.moving.specs.Moves.{new_image, old_image, forward, back}
-use Rattle.moving.specs.Answers.{by_writing, as_moved, forward_into, back_into}
+use Rattle.moving.specs.Answers.{by_writing, forward_into, back_into}
 use Rattle.moving.specs.Inner.Parts.{as_read}
 use Rattle.moving.specs.declared.answers.Moved.{Moved}
-use Rattle.moving.specs.declared.answers.Moved.TheVariants.{Done, Refused}
+use Rattle.moving.specs.declared.answers.Moved.TheVariants.{Refused}
 use Rattle.moving.proofs.OldTrips.{old_long}
 
 -- ---- from the answer of a reading back to what was read

@@ -1,5 +1,6 @@
 // The whole text that `play` prints, and what `run` prints of a list's answers, in a lent buffer.
 #![tactic(auto)]
+
 mod play;
 mod text;
 

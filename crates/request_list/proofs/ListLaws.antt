@@ -3,10 +3,8 @@
 use Prim.Native.Nat.{ℕ, zero, suc, ◌+◌, ◌≤◌, ◌<◌}
 use native.Mathlib.Omega.{arith}
 use mathlib.Core.Path.{◌≡◌, refl, sym, ap, ◌∙◌}
-use mathlib.Core.Logic.{⊎_elim}
 use mathlib.Core.List.{List, [], ◌∷◌}
 use lib.ListN.{length}
-use denote.Enum.Declared.{tag_of}
 use Rattle.records.specs.declared.Reading.{Reading}
 use Rattle.records.specs.declared.Reading.TheVariants as reading
 use Rattle.request_bytes.specs.Read.{read_request}
@@ -16,7 +14,6 @@ use Rattle.request_bytes.specs.declared.answers.RequestReading.{RequestReading}
 use Rattle.request_bytes.specs.declared.answers.RequestReading.TheVariants.{Done, End, Refused}
 use Rattle.request_bytes.proofs.Laws.{read_end}
 use Rattle.request_bytes.proofs.Answered.{taken}
-use Rattle.request_bytes.specs.contracts.answers.RequestReading.{the_type}
 use Rattle.request_list.specs.List.{Listed, asked, on_answer, read_from, read_list}
 
 -- ---- one request of it

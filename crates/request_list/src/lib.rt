@@ -1,5 +1,6 @@
 // A list of requests as bytes: how many it has.
 #![tactic(auto)]
+
 ghost use Rattle.std.specs.Prelude.{◌≡◌, length};
 ghost use Rattle.request_list.specs.List.{read_list};
 

@@ -5,8 +5,7 @@ use Prim.Native.Nat.{ℕ, ◌*◌, ◌/◌, ◌≤◌, ◌<◌}
 use native.Mathlib.Omega.{arith}
 use native.Mathlib.Nat.{zero-add}
 use mathlib.Core.Bool.{Bool, true, false, cond, ◌&&◌}
-use mathlib.Core.List.{List, [], ◌∷◌}
-use mathlib.Core.Logic.{⊎_elim}
+use mathlib.Core.List.{List}
 use mathlib.Core.Path.{◌≡◌, refl, sym, ap, ◌∙◌}
 use lib.Dec.{T, leb}
 use lib.ListN.{length, get_or}
@@ -35,7 +34,6 @@ use Rattle.engine.specs.List.{replies_to, run_answer, Result, refused_run, run_o
 use Rattle.engine.specs.declared.answers.Ran.{Ran as Run}
 use Rattle.engine.specs.declared.answers.RunAnswer.{RunAnswer}
 use Rattle.engine.specs.declared.answers.RunAnswer.TheVariants.{Refused}
-use Rattle.engine.specs.contracts.answers.RunAnswer.{the_type}
 use Rattle.robot.specs.Library.{call, gives, gives_ran, bytes_after, ended_by, run_matrix}
 use Rattle.robot.specs.Inner.Parts.{count_of, next_of, ending_by, needed_by}
 use Rattle.robot.specs.declared.run.Needed.{Needed}

@@ -1,5 +1,6 @@
 // The robots' library, for C and Rust: functions on bytes and numbers only. What each promises stands in words in library/slushferret.h.
 #![tactic(auto)]
+
 mod check;
 mod convert_bytes;
 mod mark_bytes;

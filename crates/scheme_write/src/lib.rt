@@ -1,5 +1,6 @@
 // A scheme's bytes, into a lent buffer. What they are is said in `scheme_bytes`, beside what is read.
 #![tactic(auto)]
+
 mod write;
 
 pub use write::write_scheme;

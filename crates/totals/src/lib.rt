@@ -1,5 +1,6 @@
 // The totals that `play` prints at the end: things, cells that aren't empty, entries.
 #![tactic(auto)]
+
 mod answers;
 
 ghost use Rattle.std.specs.Prelude.{◌≡◌, length};

@@ -1,7 +1,6 @@
 -- `hold::marked_by` meets its contract: 27 for what isn't accepted, else the mark.
 -- Assumes nothing.
 use mathlib.Core.Path.{◌∙◌}
-use borrow.Author.Rules.{rules}
 use borrow.Author.Tests.{not-true, not-false}
 use Rattle.hold.proofs.MarkLaws.{marked_27, marked_on}
 use Rattle.hold.proofs.marked_by.Goals as goal

@@ -1,13 +1,9 @@
 -- `request_list::count_requests` meets its contract: what is counted and what is left to count are the whole.
 -- Assumes nothing.
 use Prim.Native.Nat.{◌-◌}
-use native.Mathlib.Omega.{arith}
-use mathlib.Core.Path.{refl, sym, ◌∙◌}
 use lib.ListN.{length}
-use borrow.Author.Rules.{rules}
-use Rattle.request_bytes.proofs.Answered.{taken}
 use Rattle.request_list.specs.List.{Listed}
-use Rattle.request_list.proofs.ListLaws.{Counting, counting_start, counting_on, counted_none, counted_stop}
+use Rattle.request_list.proofs.ListLaws.{Counting}
 use Rattle.request_list.proofs.count_requests.Given as goal
 
 abbrev pub invariant-loop-p : goal.invariant-loop-p

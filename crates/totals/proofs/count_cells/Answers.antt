@@ -1,12 +1,8 @@
 -- `totals::count_cells` meets its contract: what is counted and what is left to count are the whole.
 -- Assumes nothing.
-use Prim.Native.Nat.{◌+◌, ◌-◌, ◌≤◌}
-use mathlib.Core.Path.{◌≡◌}
-use mathlib.Core.Logic.{⊎_elim}
 use native.Mathlib.Omega.{arith}
-use lib.ListN.{drop}
 use borrow.Author.Rules.{rules}
-use Rattle.totals.specs.Totals.{filled, sum_of}
+use Rattle.totals.specs.Totals.{filled}
 use Rattle.totals.proofs.Sums.{filled_none, filled_one, sum_turn, sum_end}
 use Rattle.totals.proofs.count_cells.Goals as goal
 use Rattle.totals.proofs.count_cells.Goals.{else-cells-k-ne0, then-cells-k-ne0}

@@ -1,12 +1,9 @@
 -- `totals::count_entries` meets its contract: what is counted and what is left to count are the whole.
 -- Assumes nothing.
-use Prim.Native.Nat.{◌+◌, ◌*◌, ◌-◌, ◌≤◌}
-use mathlib.Core.Path.{◌≡◌}
 use native.Mathlib.Omega.{arith}
-use lib.ListN.{drop, get_or}
+use lib.ListN.{get_or}
 use borrow.Author.Rules.{rules}
 use Rattle.rights.specs.Sets.{count_rights}
-use Rattle.totals.specs.Totals.{sum_of}
 use Rattle.totals.proofs.Sums.{rights_le, sum_turn, sum_end}
 use Rattle.totals.proofs.count_entries.Goals as goal
 

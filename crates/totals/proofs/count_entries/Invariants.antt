@@ -2,12 +2,9 @@
 -- Assumes nothing.
 use Prim.Native.Nat.{◌+◌, ◌*◌, ◌-◌, ◌≤◌}
 use mathlib.Core.Path.{◌≡◌}
-use native.Mathlib.Omega.{arith}
-use lib.ListN.{drop, get_or}
-use borrow.Author.Rules.{rules}
+use lib.ListN.{drop}
 use Rattle.rights.specs.Sets.{count_rights}
 use Rattle.totals.specs.Totals.{sum_of}
-use Rattle.totals.proofs.Sums.{rights_le, sum_turn, sum_end}
 use Rattle.totals.proofs.count_entries.Given as goal
 
 abbrev pub invariant-loop-k : goal.invariant-loop-k

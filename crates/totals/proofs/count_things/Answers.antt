@@ -1,12 +1,8 @@
 -- `totals::count_things` meets its contract: what is counted and what is left to count are the whole.
 -- Assumes nothing.
-use Prim.Native.Nat.{◌+◌, ◌-◌, ◌≤◌}
-use mathlib.Core.Path.{◌≡◌}
-use mathlib.Core.Logic.{⊎_elim}
 use native.Mathlib.Omega.{arith}
-use lib.ListN.{drop}
 use borrow.Author.Rules.{rules}
-use Rattle.totals.specs.Totals.{filled, sum_of}
+use Rattle.totals.specs.Totals.{filled}
 use Rattle.totals.proofs.Sums.{filled_none, filled_one, sum_turn, sum_end}
 use Rattle.totals.proofs.count_things.Goals as goal
 use Rattle.totals.proofs.count_things.Goals.{else-th-i-ne0, then-th-i-ne0}

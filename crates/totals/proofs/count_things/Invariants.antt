@@ -2,12 +2,8 @@
 -- Assumes nothing.
 use Prim.Native.Nat.{◌+◌, ◌-◌, ◌≤◌}
 use mathlib.Core.Path.{◌≡◌}
-use mathlib.Core.Logic.{⊎_elim}
-use native.Mathlib.Omega.{arith}
 use lib.ListN.{drop}
-use borrow.Author.Rules.{rules}
 use Rattle.totals.specs.Totals.{filled, sum_of}
-use Rattle.totals.proofs.Sums.{filled_none, filled_one, sum_turn, sum_end}
 use Rattle.totals.proofs.count_things.Given as goal
 
 abbrev pub invariant-loop-i : goal.invariant-loop-i

@@ -1,5 +1,4 @@
 -- The converted scheme is accepted, so nothing but room can refuse its writing.
-use borrow.Author.Rules.{rules}
 use Rattle.conversion.proofs.Converted.{converts}
 use Rattle.convert.proofs.AnswerLaws.{bytes_refused, bytes_done}
 use Rattle.convert.proofs.bytes.convert_scheme.Goals as goal

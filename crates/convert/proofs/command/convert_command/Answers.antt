@@ -1,5 +1,4 @@
 -- The parameters stay, and tests and operations are converted each for itself.
-use borrow.Author.Rules.{rules}
 use Rattle.convert.proofs.CommandLaws.{tests_padded, command_is}
 use Rattle.convert.proofs.command.convert_command.Goals as goal
 

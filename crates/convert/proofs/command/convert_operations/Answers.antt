@@ -1,15 +1,11 @@
 -- After j turns the first 2 * j operations are the first j converted; behind them stand zeros.
-use Prim.Native.Nat.{◌*◌, ◌-◌, ◌≤◌}
+use Prim.Native.Nat.{◌≤◌}
 use native.Mathlib.Omega.{arith}
 use mathlib.Core.Path.{◌≡◌}
-use lib.ListN.{length, replicate}
+use lib.ListN.{length}
 use borrow.Author.Rules.{rules}
 use Rattle.laws.proofs.Walks.{long}
-use Rattle.conversion.specs.Conversion.{convert_operations}
-use Rattle.laws.proofs.Filling.{Filling}
-use Rattle.convert.proofs.CommandLaws.{none, paired_begin, paired_on, paired_all}
-use Rattle.model.specs.Scheme.{operations_of}
-use Rattle.model.specs.Arrays.{operations_from}
+use Rattle.convert.proofs.CommandLaws.{paired_begin, paired_on, paired_all}
 use Rattle.convert.proofs.command.convert_operations.Goals as goal
 
 pub loop-j-init : goal.loop-j-init

@@ -1,13 +1,9 @@
 -- After j turns the first 2 * j operations are the first j converted; behind them stand zeros.
 use Prim.Native.Nat.{◌*◌, ◌-◌, ◌≤◌}
-use native.Mathlib.Omega.{arith}
-use mathlib.Core.Path.{◌≡◌}
 use lib.ListN.{length, replicate}
-use borrow.Author.Rules.{rules}
-use Rattle.laws.proofs.Walks.{long}
 use Rattle.conversion.specs.Conversion.{convert_operations}
 use Rattle.laws.proofs.Filling.{Filling}
-use Rattle.convert.proofs.CommandLaws.{none, paired_begin, paired_on, paired_all}
+use Rattle.convert.proofs.CommandLaws.{none}
 use Rattle.model.specs.Scheme.{operations_of}
 use Rattle.model.specs.Arrays.{operations_from}
 use Rattle.convert.proofs.command.convert_operations.Given as goal

@@ -1,5 +1,4 @@
 -- A test of presence stays, one of absence becomes its partner's presence.
-use borrow.Author.Rules.{rules}
 use Rattle.convert.proofs.CommandLaws.{test_present, test_absent}
 use Rattle.convert.proofs.command.convert_test.Goals as goal
 

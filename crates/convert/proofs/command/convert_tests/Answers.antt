@@ -1,12 +1,7 @@
 -- After j turns the first j tests are the converted ones; behind those in use stand zeros before and after.
-use Prim.Native.Nat.{◌-◌, ◌≤◌}
 use native.Mathlib.Omega.{arith}
-use mathlib.Core.List.{map}
-use borrow.Author.Rules.{rules}
 use Rattle.conversion.specs.Conversion.{convert_test}
-use Rattle.laws.proofs.Filling.{Filling, changed_begin, changed_on, changed_all, changed_used}
-use Rattle.model.specs.Scheme.{tests_of}
-use Rattle.model.specs.Arrays.{tests_from}
+use Rattle.laws.proofs.Filling.{changed_begin, changed_on, changed_all, changed_used}
 use Rattle.command_bytes.proofs.Padded.{no_test_lem}
 use Rattle.convert.proofs.command.convert_tests.Goals as goal
 

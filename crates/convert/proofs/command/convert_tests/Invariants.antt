@@ -1,13 +1,10 @@
 -- After j turns the first j tests are the converted ones; behind those in use stand zeros before and after.
 use Prim.Native.Nat.{◌-◌, ◌≤◌}
-use native.Mathlib.Omega.{arith}
 use mathlib.Core.List.{map}
-use borrow.Author.Rules.{rules}
 use Rattle.conversion.specs.Conversion.{convert_test}
-use Rattle.laws.proofs.Filling.{Filling, changed_begin, changed_on, changed_all, changed_used}
+use Rattle.laws.proofs.Filling.{Filling}
 use Rattle.model.specs.Scheme.{tests_of}
 use Rattle.model.specs.Arrays.{tests_from}
-use Rattle.command_bytes.proofs.Padded.{no_test_lem}
 use Rattle.convert.proofs.command.convert_tests.Given as goal
 
 abbrev pub invariant-loop-j : goal.invariant-loop-j

@@ -1,12 +1,7 @@
 -- The walk over the operations stops at the first that is neither an enter nor a delete.
 use Prim.Native.Nat.{◌-◌}
-use mathlib.Core.Path.{refl, sym, ◌∙◌}
-use native.Mathlib.Omega.{arith}
-use borrow.Author.Rules.{rules}
-use borrow.Author.Tests.{not-true, not-false}
-use Rattle.laws.specs.Check.{all}
-use Rattle.laws.proofs.Walks.{long, Walk, start, on, out, end, all_on, all_out}
-use Rattle.model.specs.Scheme.{no_operation, operations_of}
+use Rattle.laws.proofs.Walks.{Walk}
+use Rattle.model.specs.Scheme.{operations_of}
 use Rattle.conversion.specs.Conversion.{keeps_all}
 use Rattle.convert.proofs.command.keep_things.Given as goal
 

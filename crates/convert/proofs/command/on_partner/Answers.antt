@@ -1,5 +1,4 @@
 -- The opposite, the partner, and the same cell.
-use borrow.Author.Rules.{rules}
 use Rattle.convert.proofs.CommandLaws.{on_partner_lem}
 use Rattle.convert.proofs.command.on_partner.Goals as goal
 

@@ -1,10 +1,6 @@
 -- After i turns the first i rows are the converted ones.
-use Prim.Native.Nat.{◌-◌, ◌<◌}
-use mathlib.Core.Path.{sym, ◌∙◌}
-use mathlib.Core.Logic.{⊎_elim}
-use borrow.Author.Rules.{rules}
-use Rattle.model.specs.Scheme.{is_subject}
-use Rattle.convert.proofs.CellLaws.{Converting, converting_start, row_long, row_small, free_row, object_row, converting_row, converting_none, converting_end}
+use Prim.Native.Nat.{◌-◌}
+use Rattle.convert.proofs.CellLaws.{Converting}
 use Rattle.convert.proofs.matrix.convert_cells.Given as goal
 
 abbrev pub invariant-loop-i : goal.invariant-loop-i

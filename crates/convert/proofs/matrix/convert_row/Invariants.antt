@@ -1,8 +1,6 @@
 -- After j turns the first j cells of the row are the converted ones.
 use Prim.Native.Nat.{◌-◌}
-use mathlib.Core.Logic.{⊎_elim}
-use borrow.Author.Rules.{rules}
-use Rattle.convert.proofs.CellLaws.{RowConverting, row_start, row_there, row_on, row_past, row_end}
+use Rattle.convert.proofs.CellLaws.{RowConverting}
 use Rattle.convert.proofs.matrix.convert_row.Given as goal
 
 abbrev pub invariant-loop-j : goal.invariant-loop-j

@@ -1,5 +1,4 @@
 -- The shifted complement loses nothing, and the sum is the converted set.
-use borrow.Author.Rules.{rules}
 use Rattle.convert.proofs.CellLaws.{converted_word, word_small}
 use Rattle.convert.proofs.matrix.convert_set.Goals as goal
 

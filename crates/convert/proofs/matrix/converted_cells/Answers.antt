@@ -1,7 +1,6 @@
 -- 27 for the scheme and for the matrix, before the three checks, then the cells; a refusal stores nothing.
 use mathlib.Core.Bool.{true}
 use mathlib.Core.Path.{◌≡◌, sym, ◌∙◌}
-use borrow.Author.Rules.{rules}
 use borrow.Author.Tests.{not-true, not-false}
 use Rattle.model.specs.Accepted.{accepted_scheme, accepted_matrix}
 use Rattle.laws.proofs.Bools.{from_true}

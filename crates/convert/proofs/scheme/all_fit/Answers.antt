@@ -1,13 +1,11 @@
 -- The walk over the commands stops at the first with more than 16 operations.
-use Prim.Native.Nat.{◌-◌, ◌≤◌}
 use mathlib.Core.Path.{refl}
 use native.Mathlib.Omega.{arith}
 use borrow.Author.Rules.{rules}
 use borrow.Author.Tests.{le-leb, lt-leb}
 use Rattle.laws.specs.Check.{all}
-use Rattle.model.specs.Scheme.{commands_of}
-use Rattle.laws.proofs.Walks.{long, Walk, start, on, out, end, all_on, all_out}
-use Rattle.convert.proofs.SchemeLaws.{fits, in_range}
+use Rattle.laws.proofs.Walks.{long, start, on, out, end, all_on, all_out}
+use Rattle.convert.proofs.SchemeLaws.{in_range}
 use Rattle.convert.proofs.scheme.all_fit.Goals as goal
 
 pub loop-j-init : goal.loop-j-init

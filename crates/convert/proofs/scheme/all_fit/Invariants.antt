@@ -1,13 +1,9 @@
 -- The walk over the commands stops at the first with more than 16 operations.
 use Prim.Native.Nat.{◌-◌, ◌≤◌}
-use mathlib.Core.Path.{refl}
-use native.Mathlib.Omega.{arith}
-use borrow.Author.Rules.{rules}
-use borrow.Author.Tests.{le-leb, lt-leb}
 use Rattle.laws.specs.Check.{all}
 use Rattle.model.specs.Scheme.{commands_of}
-use Rattle.laws.proofs.Walks.{long, Walk, start, on, out, end, all_on, all_out}
-use Rattle.convert.proofs.SchemeLaws.{fits, in_range}
+use Rattle.laws.proofs.Walks.{Walk}
+use Rattle.convert.proofs.SchemeLaws.{fits}
 use Rattle.convert.proofs.scheme.all_fit.Given as goal
 
 abbrev pub invariant-loop-j : goal.invariant-loop-j

@@ -1,13 +1,9 @@
 -- The walk over the commands stops at the first that creates or destroys.
 use Prim.Native.Nat.{◌-◌, ◌≤◌}
-use mathlib.Core.Path.{refl, sym, ◌∙◌}
-use native.Mathlib.Omega.{arith}
-use borrow.Author.Rules.{rules}
-use borrow.Author.Tests.{not-true, not-false}
 use Rattle.laws.specs.Check.{all}
 use Rattle.model.specs.Scheme.{commands_of}
-use Rattle.laws.proofs.Walks.{long, Walk, start, on, out, end, all_on, all_out}
-use Rattle.convert.proofs.SchemeLaws.{keeps, in_range, few_operations}
+use Rattle.laws.proofs.Walks.{Walk}
+use Rattle.convert.proofs.SchemeLaws.{keeps}
 use Rattle.convert.proofs.scheme.all_keep_things.Given as goal
 
 abbrev pub invariant-loop-j : goal.invariant-loop-j

@@ -1,7 +1,6 @@
 -- The three checks, in their order.
 use mathlib.Core.Path.{sym, ◌∙◌}
 use native.Mathlib.Omega.{arith}
-use borrow.Author.Rules.{rules}
 use borrow.Author.Tests.{not-true, not-false}
 use Rattle.convert.proofs.SchemeLaws.{fault_20, fault_21, fault_22, no_fault}
 use Rattle.convert.proofs.scheme.conversion_fault.Goals as goal

@@ -1,10 +1,7 @@
 -- After j turns the first j commands are the converted ones; behind those in use stand zeros before and after.
-use Prim.Native.Nat.{◌-◌, ◌≤◌}
 use native.Mathlib.Omega.{arith}
 use borrow.Author.Rules.{rules}
-use Rattle.conversion.specs.Conversion.{convert_scheme}
 use Rattle.conversion.proofs.Lists.{few_rights}
-use Rattle.laws.proofs.Filling.{Filling}
 use Rattle.convert.proofs.SchemeLaws.{in_range, command_convertible, converted_begin, converted_on, converted_all}
 use Rattle.convert.proofs.scheme.convert_all.Goals as goal
 

@@ -1,7 +1,6 @@
 -- 27 before the three checks, then the scheme.
 use mathlib.Core.Bool.{true}
 use mathlib.Core.Path.{◌≡◌, sym, ◌∙◌}
-use borrow.Author.Rules.{rules}
 use borrow.Author.Tests.{not-true, not-false}
 use Rattle.model.specs.Accepted.{accepted_scheme}
 use Rattle.laws.proofs.Bools.{from_true}

@@ -1,11 +1,9 @@
 -- `blank` of the cells stays what it was, and after j turns the seat's cells at columns and rows below j are 0.
-use Prim.Native.Nat.{◌≤◌, ◌-◌}
-use mathlib.Core.Path.{◌≡◌, refl, sym, ◌∙◌}
+use mathlib.Core.Path.{refl, sym, ◌∙◌}
 use native.Mathlib.Omega.{arith}
-use lib.ListN.{length, length-set}
+use lib.ListN.{length-set}
 use borrow.Author.Rules.{rules}
-use Rattle.model.specs.Seats.{blank}
-use Rattle.engine.proofs.CellLaws.{Clear, clear_turn, blank_turn, blank_end, blank_out}
+use Rattle.engine.proofs.CellLaws.{clear_turn, blank_turn, blank_end, blank_out}
 use Rattle.engine.proofs.cells.blank_seat.Goals as goal
 
 pub loop-j-init : goal.loop-j-init

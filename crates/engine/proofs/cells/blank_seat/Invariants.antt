@@ -1,11 +1,9 @@
 -- `blank` of the cells stays what it was, and after j turns the seat's cells at columns and rows below j are 0.
 use Prim.Native.Nat.{◌≤◌, ◌-◌}
-use mathlib.Core.Path.{◌≡◌, refl, sym, ◌∙◌}
-use native.Mathlib.Omega.{arith}
-use lib.ListN.{length, length-set}
-use borrow.Author.Rules.{rules}
+use mathlib.Core.Path.{◌≡◌}
+use lib.ListN.{length}
 use Rattle.model.specs.Seats.{blank}
-use Rattle.engine.proofs.CellLaws.{Clear, clear_turn, blank_turn, blank_end, blank_out}
+use Rattle.engine.proofs.CellLaws.{Clear}
 use Rattle.engine.proofs.cells.blank_seat.Given as goal
 
 abbrev pub invariant-loop-j : goal.invariant-loop-j

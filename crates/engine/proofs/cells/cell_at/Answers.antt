@@ -1,7 +1,6 @@
 -- The element, or the 0 that `get_or` gives past the end.
 use mathlib.Core.Path.{sym}
 use lib.ListN.{get_or-eq_default}
-use borrow.Author.Rules.{rules}
 use Rattle.engine.proofs.cells.cell_at.Goals as goal
 
 pub returns-else-k-cells : goal.returns-else-k-cells

@@ -1,10 +1,8 @@
 -- The walk over the operations in use: what is left of them, on the cells so far, gives what all of them give on the first.
-use Prim.Native.Nat.{◌-◌}
-use mathlib.Core.Path.{◌≡◌, refl, ◌∙◌}
+use mathlib.Core.Path.{refl, ◌∙◌}
 use native.Mathlib.Omega.{arith}
-use lib.ListN.{length}
-use Rattle.laws.proofs.Walks.{long, Walk, start, on, end}
-use Rattle.model.specs.Scheme.{operations_of, no_operation}
+use Rattle.laws.proofs.Walks.{long, start, on, end}
+use Rattle.model.specs.Scheme.{no_operation}
 use Rattle.engine.specs.Inner.Cells.{cells_after}
 use Rattle.engine.proofs.CellLaws.{after_on}
 use borrow.Author.Rules.{rules}

@@ -1,13 +1,10 @@
 -- The walk over the operations in use: what is left of them, on the cells so far, gives what all of them give on the first.
 use Prim.Native.Nat.{◌-◌}
-use mathlib.Core.Path.{◌≡◌, refl, ◌∙◌}
-use native.Mathlib.Omega.{arith}
+use mathlib.Core.Path.{◌≡◌}
 use lib.ListN.{length}
-use Rattle.laws.proofs.Walks.{long, Walk, start, on, end}
-use Rattle.model.specs.Scheme.{operations_of, no_operation}
+use Rattle.laws.proofs.Walks.{Walk}
+use Rattle.model.specs.Scheme.{operations_of}
 use Rattle.engine.specs.Inner.Cells.{cells_after}
-use Rattle.engine.proofs.CellLaws.{after_on}
-use borrow.Author.Rules.{rules}
 use Rattle.engine.proofs.cells.change_all.Given as goal
 
 abbrev pub invariant-loop-i : goal.invariant-loop-i

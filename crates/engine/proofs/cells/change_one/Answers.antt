@@ -1,7 +1,6 @@
 -- What the calls give is what `cells_by` says of the code.
 use mathlib.Core.Path.{◌∙◌}
 use Rattle.engine.specs.Inner.Cells.{cells_by}
-use borrow.Author.Rules.{rules}
 use Rattle.engine.proofs.cells.change_one.Goals as goal
 
 pub returns-in-Enter : goal.returns-in-Enter

@@ -1,7 +1,6 @@
 -- The set read, changed and stored.
 use mathlib.Core.Path.{◌∙◌}
 use Rattle.engine.specs.Inner.Cells.{change_at}
-use borrow.Author.Rules.{rules}
 use Rattle.engine.proofs.cells.enter_at.Goals as goal
 
 pub returns : goal.returns

@@ -1,6 +1,5 @@
 -- The two cases of the test's sign.
 use Rattle.engine.proofs.CellLaws.{holds_present, holds_absent}
-use borrow.Author.Rules.{rules}
 use Rattle.engine.proofs.cells.holds.Goals as goal
 
 pub returns-then-t : goal.returns-then-t

@@ -1,6 +1,5 @@
 -- A seat fits a byte, so the place fits; the rest is the definition.
 use Rattle.engine.specs.Inner.Cells.{place_at}
-use borrow.Author.Rules.{rules}
 use Rattle.engine.proofs.cells.place_at.Goals as goal
 
 pub returns : goal.returns

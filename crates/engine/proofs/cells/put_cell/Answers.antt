@@ -1,7 +1,6 @@
 -- The store, or nothing past the end, where `set` does nothing either.
 use mathlib.Core.Path.{sym}
 use lib.Seq.{set_out}
-use borrow.Author.Rules.{rules}
 use Rattle.engine.proofs.cells.put_cell.Goals as goal
 
 pub returns-else-k-cells : goal.returns-else-k-cells

@@ -1,6 +1,5 @@
 -- Each arm is a case of `ended_by`.
 -- Assumes nothing.
-use borrow.Author.Rules.{rules}
 use Rattle.engine.proofs.list.ended.Goals as goal
 
 pub returns-in-Done : goal.returns-in-Done

@@ -1,8 +1,7 @@
 -- What is done and what is left are the whole: each turn is a step of the model, and its reply is stored where there is room.
 -- Assumes nothing.
-use Prim.Native.Nat.{◌-◌, ◌<◌}
+use Prim.Native.Nat.{◌<◌}
 use native.Mathlib.Omega.{arith}
-use mathlib.Core.Logic.{⊎_elim}
 use mathlib.Core.Path.{◌≡◌, sym, ap, ◌∙◌}
 use lib.ListN.{length}
 use lib.Seq.{length-take-le}
@@ -14,7 +13,7 @@ use Rattle.request_bytes.proofs.Answered.{taken}
 use Rattle.engine.specs.Inner.Carry.{answer_of}
 use Rattle.engine.proofs.PlanIsStep.{counted}
 use Rattle.engine.proofs.StepLaws.{few_commands, command_ready, no_steps_10}
-use Rattle.engine.proofs.ListLaws.{Turned, turned_none, turn_few, turned_some, Running, running_start, same_room, running_on, run_none, run_stop}
+use Rattle.engine.proofs.ListLaws.{Turned, turned_none, turn_few, turned_some, running_start, same_room, running_on, run_none, run_stop}
 use borrow.Author.Rules.{rules}
 use Rattle.engine.proofs.list.run_all.Goals as goal
 use Rattle.engine.proofs.list.run_all.Goals.{At-loop-p, Joined-q-h, Then-q-h, then-q-h, else-q-h}
@@ -70,11 +69,12 @@ turned : (c : Joined-q-h) →
     Turned c.args.s (matrix_of c.loop-p.things c.loop-p.cells) c.read_request-read.result.request c.if-q-h.told
     (matrix_of c.if-q-h.things c.if-q-h.cells)
 turned c =
-    elim c.if-q-h.branch
-    [ then-q-h w ↦ rw (w.cells-is, w.things-is, w.told-is)
-        (turned_some c.args.s _ c.read_request-read.result.request c.requires.0 c.loop-p.invariant.held w.if-q-h.true _ _ _ w.carry_out-carried.ensures _ w.reply-told-then-q-h.ensures)
-    | else-q-h w ↦ rw (w.cells-is, w.things-is, w.told-is) (turned_none c.args.s _ c.read_request-read.result.request w.if-q-h.false _
-        (c.reply-told.ensures ∙ ap (λ (v : Verdict). reply_of (takes 0 0) (answer_of v)) c.refused.ensures)) ]
+    elim c.if-q-h.branch [
+      | then-q-h w ↦ rw (w.cells-is, w.things-is, w.told-is)
+          (turned_some c.args.s _ c.read_request-read.result.request c.requires.0 c.loop-p.invariant.held w.if-q-h.true _ _ _ w.carry_out-carried.ensures _ w.reply-told-then-q-h.ensures)
+      | else-q-h w ↦ rw (w.cells-is, w.things-is, w.told-is) (turned_none c.args.s _ c.read_request-read.result.request w.if-q-h.false _
+          (c.reply-told.ensures ∙ ap (λ (v : Verdict). reply_of (takes 0 0) (answer_of v)) c.refused.ensures))
+    ]
 
 pub overflow_add-n : goal.overflow_add-n
 overflow_add-n c =

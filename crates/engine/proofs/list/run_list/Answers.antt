@@ -8,7 +8,6 @@ use Rattle.model.specs.Seats.{matrix_of}
 use Rattle.engine.proofs.StepLaws.{both_accepted}
 use native.Mathlib.Omega.{arith}
 use Rattle.engine.proofs.ListLaws.{list_27, list_9, list_runs}
-use borrow.Author.Rules.{rules}
 use Rattle.engine.proofs.list.run_list.Goals as goal
 use Rattle.engine.proofs.list.run_list.Goals.{Else-not-all_accepted}
 

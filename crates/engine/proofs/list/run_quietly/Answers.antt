@@ -8,7 +8,6 @@ use Rattle.model.specs.Seats.{matrix_of}
 use Rattle.engine.proofs.StepLaws.{both_accepted}
 use mathlib.Core.List.{[]}
 use Rattle.engine.proofs.ListLaws.{quiet_27, quiet_runs}
-use borrow.Author.Rules.{rules}
 use Rattle.engine.proofs.list.run_quietly.Goals as goal
 use Rattle.engine.proofs.list.run_quietly.Goals.{Else-not-all_accepted}
 

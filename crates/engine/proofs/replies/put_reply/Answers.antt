@@ -5,7 +5,6 @@ use native.Mathlib.Numerals.{add-one}
 use native.Mathlib.Omega.{arith}
 use Rattle.model.specs.Answers.{reply_bytes}
 use Rattle.records.proofs.BytesLaws.{sets_out}
-use borrow.Author.Rules.{rules}
 use Rattle.engine.proofs.replies.put_reply.Goals as goal
 
 two : (n : ℕ) → n + 2 ≡ suc (suc n)

@@ -11,7 +11,6 @@ use Rattle.laws.specs.Check.{between}
 use Rattle.model.specs.Request.{number}
 use Rattle.model.specs.Answers.{takes, steps_of, in_all, test_place, reply_of}
 use Rattle.model.specs.declared.Refusal.{Refusal}
-use borrow.Author.Rules.{rules}
 use Rattle.engine.proofs.replies.refusal_reply.Goals as goal
 
 module _ (r : Refusal) (tests : ℕ) where

@@ -2,7 +2,6 @@
 use native.Mathlib.Omega.{arith}
 use Rattle.model.specs.Request.{number}
 use Rattle.model.specs.Answers.{steps_of, test_place, reply_of}
-use borrow.Author.Rules.{rules}
 use Rattle.engine.proofs.replies.reply.Goals as goal
 
 pub overflow_add-result : goal.overflow_add-result

@@ -1,7 +1,6 @@
 -- The two answers are the two sides.
 use mathlib.Core.Path.{sym, ◌∙◌}
 use borrow.Author.Tests.{not-true, not-false}
-use borrow.Author.Rules.{rules}
 use Rattle.engine.proofs.step.all_accepted.Goals as goal
 
 pub returns-then-not-scheme_accepted : goal.returns-then-not-scheme_accepted

@@ -1,7 +1,6 @@
 -- Each way out of the code is one of `planned`: the laws are over the answers that the functions called have given.
 -- Assumes nothing.
 use Rattle.engine.proofs.CarryLaws.{stops_11, stops_place, stops_test, stops_plan, carries}
-use borrow.Author.Rules.{rules}
 use Rattle.engine.proofs.step.carry_out.Goals as goal
 
 pub returns-then-ids-p : goal.returns-then-ids-p

@@ -1,5 +1,4 @@
 -- The verdict is the refusal's.
-use borrow.Author.Rules.{rules}
 use Rattle.engine.proofs.step.refuse.Goals as goal
 
 pub returns : goal.returns

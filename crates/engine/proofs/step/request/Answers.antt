@@ -3,7 +3,6 @@
 use mathlib.Core.Path.{sym, ◌∙◌}
 use borrow.Author.Tests.{not-true, not-false}
 use Rattle.engine.proofs.StepLaws.{both_accepted, no_steps_27, refuses_27, request_step}
-use borrow.Author.Rules.{rules}
 use Rattle.engine.proofs.step.request.Goals as goal
 
 pub told-requires : goal.told-requires

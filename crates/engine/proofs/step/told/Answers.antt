@@ -1,5 +1,4 @@
 -- The reply is the answer's.
-use borrow.Author.Rules.{rules}
 use Rattle.engine.proofs.step.told.Goals as goal
 
 pub returns : goal.returns

@@ -1,6 +1,5 @@
 -- `moving::image::write_image` meets its contract: what was written from its end stands from the start on.
 -- Assumes nothing.
-use borrow.Author.Rules.{rules}
 use Rattle.moving.proofs.ImageLaws.{image_short, image_written}
 use Rattle.moving.proofs.image.write_image.Goals as goal
 

@@ -1,6 +1,5 @@
 -- `moving::image::write_old` meets its contract: the head's body without the highest, and the rest of the image.
 -- Assumes nothing.
-use borrow.Author.Rules.{rules}
 use Rattle.moving.proofs.ImageLaws.{part_few, old_is}
 use Rattle.moving.proofs.image.write_old.Goals as goal
 

@@ -1,7 +1,6 @@
 -- `moving::moves::back` meets its contract: 27, the reading of the new image, 23, and what is written of it.
 -- Assumes nothing.
 use mathlib.Core.Path.{sym, ◌∙◌}
-use borrow.Author.Rules.{rules}
 use borrow.Author.Tests.{not-true, not-false}
 use Rattle.moving.proofs.MoveLaws.{back_27, back_refused, back_lost, back_done}
 use Rattle.moving.proofs.moves.back.Goals as goal

@@ -1,7 +1,6 @@
 -- `moving::moves::forward` meets its contract: 27, the reading of the old image, and what is written of it.
 -- Assumes nothing.
 use mathlib.Core.Path.{sym, ◌∙◌}
-use borrow.Author.Rules.{rules}
 use borrow.Author.Tests.{not-true, not-false}
 use Rattle.laws.proofs.Bools.{from_true}
 use Rattle.matrix_bytes.proofs.RoundTrips.{head_passes}

@@ -2,7 +2,6 @@
 -- Assumes nothing.
 use mathlib.Core.Path.{◌≡◌, refl, sym, ap, ◌∙◌}
 use lib.ListN.{drop}
-use borrow.Author.Rules.{rules}
 use Rattle.records.proofs.FieldLaws.{field_value}
 use Rattle.records.specs.Reading.{got, field, as_field}
 use Rattle.matrix_records.proofs.BodyLaws.{told_fault}

@@ -1,12 +1,7 @@
 -- `moving::old::highest_listed` meets its contract: the higher of what was met and of the ids still to come stays the highest of all.
 -- Assumes nothing.
-use Prim.Native.Nat.{◌≤◌, ◌-◌, max}
-use native.Mathlib.Omega.{arith}
-use mathlib.Core.Logic.{⊎_elim}
-use mathlib.Core.Path.{◌≡◌}
-use lib.ListN.{drop}
 use borrow.Author.Rules.{rules}
-use Rattle.moving.specs.Old.{highest_of, highest_listed}
+use Rattle.moving.specs.Old.{highest_listed}
 use Rattle.moving.proofs.OldReads.{highest_none, highest_on, highest_stays, highest_all}
 use Rattle.moving.proofs.old.highest_listed.Goals as goal
 use Rattle.moving.proofs.old.highest_listed.Goals.{else-highest-x, then-highest-x}

@@ -1,6 +1,5 @@
 -- `moving::old::refused` meets its contract: nobody sits anywhere.
 -- Assumes nothing.
-use borrow.Author.Rules.{rules}
 use Rattle.moving.proofs.OldReads.{nobody_there}
 use Rattle.moving.proofs.old.refused.Goals as goal
 

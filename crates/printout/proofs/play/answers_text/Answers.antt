@@ -1,7 +1,6 @@
 -- `play::answers_text` meets its contract: the heading, then the lines of the list with the stored results.
 -- Assumes nothing.
 use native.Mathlib.Omega.{arith}
-use borrow.Author.Rules.{rules}
 use Rattle.printout.proofs.PlayLaws.{answers_printed}
 use Rattle.printout.proofs.play.answers_text.Goals as goal
 

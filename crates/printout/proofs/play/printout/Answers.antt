@@ -2,7 +2,6 @@
 -- Assumes nothing.
 use native.Mathlib.Omega.{arith}
 use mathlib.Core.Path.{ap}
-use borrow.Author.Rules.{rules}
 use lib.ListN.{length, length-take}
 use Rattle.printout.specs.Text.{input}
 use Rattle.printout.proofs.PlayLaws.{scheme_good, scheme_bad}

@@ -2,7 +2,6 @@
 -- Assumes nothing.
 use native.Mathlib.Omega.{arith}
 use mathlib.Core.Path.{refl, sym, ap, ◌∙◌}
-use borrow.Author.Rules.{rules}
 use Rattle.lines.specs.Put.{put_text}
 use Rattle.lines.proofs.PutLaws.{put_none}
 use Rattle.printout.proofs.RequestLaws.{has_line, no_line}

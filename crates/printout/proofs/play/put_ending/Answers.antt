@@ -2,7 +2,6 @@
 -- Assumes nothing.
 use native.Mathlib.Omega.{arith}
 use mathlib.Core.Path.{sym, ap, ◌∙◌}
-use borrow.Author.Rules.{rules}
 use Rattle.lines.specs.Put.{put_text}
 use Rattle.lines.proofs.PutLaws.{put_none}
 use Rattle.printout.specs.Inner.Ending.{ended_text}

@@ -1,7 +1,6 @@
 -- `play::put_matrix` meets its contract: what was read is accepted, and is run; else the refusal's line.
 -- Assumes nothing.
 use mathlib.Core.Path.{ap, ◌∙◌}
-use borrow.Author.Rules.{rules}
 use Rattle.lines.specs.Put.{put_text}
 use Rattle.printout.proofs.ReadLaws.{accepted}
 use Rattle.printout.proofs.PlayLaws.{matrix_good, matrix_bad}

@@ -1,12 +1,9 @@
 -- `play::put_requests` meets its contract: a turn puts a request's line, and what is left are the lines from the next request on.
 -- Assumes nothing.
-use Prim.Native.Nat.{◌-◌}
 use native.Mathlib.Omega.{arith}
 use mathlib.Core.Path.{◌∙◌}
-use lib.ListN.{length}
-use borrow.Author.Rules.{rules}
 use Rattle.lines.proofs.PutLaws.{same_room}
-use Rattle.printout.proofs.RequestLaws.{Printing, printing_start, printing_none, printing_stop, printing_on}
+use Rattle.printout.proofs.RequestLaws.{printing_start, printing_none, printing_stop, printing_on}
 use Rattle.request_bytes.proofs.Answered.{taken}
 use Rattle.printout.proofs.play.put_requests.Goals as goal
 

@@ -1,7 +1,6 @@
 -- `play::put_run` meets its contract: the heading, the lines of the list with the results of the run, and the totals it leaves.
 -- Assumes nothing.
 use native.Mathlib.Omega.{arith}
-use borrow.Author.Rules.{rules}
 use Rattle.printout.proofs.PlayLaws.{printed}
 use Rattle.printout.proofs.play.put_run.Goals as goal
 

@@ -2,11 +2,9 @@
 -- Assumes nothing.
 use native.Mathlib.Omega.{arith}
 use mathlib.Core.Path.{◌∙◌}
-use borrow.Author.Rules.{rules}
 use Rattle.lines.proofs.PutLaws.{put_then}
 use Rattle.printout.specs.Text.{bad_line}
 use Rattle.printout.proofs.text.put_bad.Goals as goal
-
 
 pub returns : goal.returns
 unfolding bad_line

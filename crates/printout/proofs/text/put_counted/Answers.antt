@@ -2,10 +2,8 @@
 -- Assumes nothing.
 use native.Mathlib.Omega.{arith}
 use mathlib.Core.Path.{◌∙◌}
-use borrow.Author.Rules.{rules}
 use Rattle.lines.proofs.PutLaws.{put_then}
 use Rattle.printout.proofs.text.put_counted.Goals as goal
-
 
 pub returns : goal.returns
 returns c =

@@ -1,7 +1,6 @@
 -- `text::put_end` meets its contract: the totals, or a refusal's line.
 -- Assumes nothing.
 use mathlib.Core.Path.{sym, ap, ◌∙◌}
-use borrow.Author.Rules.{rules}
 use Rattle.lines.specs.Put.{put_text}
 use Rattle.printout.specs.Text.{end_line}
 use Rattle.printout.proofs.text.put_end.Goals as goal

@@ -1,10 +1,7 @@
 -- `text::put_heading` meets its contract: the words are the heading of these columns.
 -- Assumes nothing.
-use borrow.Author.Rules.{rules}
 use Rattle.printout.specs.Text.{heading}
 use Rattle.printout.proofs.text.put_heading.Goals as goal
-
-
 
 pub returns-in-ToTest : goal.returns-in-ToTest
 unfolding heading

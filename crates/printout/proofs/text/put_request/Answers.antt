@@ -1,6 +1,5 @@
 -- `text::put_request` meets its contract: the numbers as far as the columns go.
 -- Assumes nothing.
-use borrow.Author.Rules.{rules}
 use Rattle.printout.proofs.text.put_request.Goals as goal
 
 pub returns-in-ToTest : goal.returns-in-ToTest

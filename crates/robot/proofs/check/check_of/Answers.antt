@@ -2,7 +2,6 @@
 -- Assumes nothing.
 use Rattle.robot.specs.Library.{gives, call, not_read, check_against}
 use Rattle.robot.proofs.CallLaws.{matrix_read, matrix_refused}
-use borrow.Author.Rules.{rules}
 use Rattle.robot.proofs.check.check_of.Goals as goal
 
 pub returns-in_default : goal.returns-in_default

@@ -2,7 +2,6 @@
 -- Assumes nothing.
 use mathlib.Core.Path.{ap, ◌∙◌}
 use Rattle.scheme_bytes.specs.Answers.{read_scheme}
-use borrow.Author.Rules.{rules}
 use Rattle.robot.proofs.check.scheme_of.Goals as goal
 
 pub returns : goal.returns

@@ -3,7 +3,6 @@
 use mathlib.Core.Path.{refl}
 use Rattle.robot.specs.Library.{gives, not_read, check_against, check_matrix}
 use Rattle.robot.proofs.CallLaws.{scheme_accepted, scheme_read, scheme_refused}
-use borrow.Author.Rules.{rules}
 use Rattle.robot.proofs.check.slushferret_check_matrix.Goals as goal
 
 pub returns-in_default : goal.returns-in_default

@@ -2,7 +2,6 @@
 -- Assumes nothing.
 use Rattle.robot.specs.Library.{gives, call, not_read, check_scheme}
 use Rattle.robot.proofs.CallLaws.{scheme_read, scheme_refused}
-use borrow.Author.Rules.{rules}
 use Rattle.robot.proofs.check.slushferret_check_scheme.Goals as goal
 
 pub returns-in_default : goal.returns-in_default

@@ -4,7 +4,6 @@ use mathlib.Core.Path.{refl}
 use Rattle.robot.specs.Library.{gives_wrote, not_written, wrote, convert_against}
 use Rattle.robot.proofs.CallLaws.{matrix_read, matrix_refused, not_written_lem, told_wrote}
 use Rattle.convert.specs.Convert.{convert_matrix_into}
-use borrow.Author.Rules.{rules}
 use Rattle.robot.proofs.convert_bytes.convert_of.Goals as goal
 
 pub returns-in_default : goal.returns-in_default

@@ -2,7 +2,6 @@
 -- Assumes nothing.
 use Rattle.robot.specs.Library.{gives_wrote, not_written, convert_against, convert_matrix_bytes}
 use Rattle.robot.proofs.CallLaws.{scheme_accepted, scheme_read, scheme_refused, not_written_lem}
-use borrow.Author.Rules.{rules}
 use Rattle.robot.proofs.convert_bytes.slushferret_convert_matrix.Goals as goal
 
 pub returns-in_default : goal.returns-in_default

@@ -3,7 +3,6 @@
 use Rattle.robot.specs.Library.{gives_wrote, not_written, wrote, convert_scheme_bytes}
 use Rattle.robot.proofs.CallLaws.{scheme_read, scheme_refused, not_written_lem, told_wrote}
 use Rattle.convert.specs.Convert.{convert_scheme_into}
-use borrow.Author.Rules.{rules}
 use Rattle.robot.proofs.convert_bytes.slushferret_convert_scheme.Goals as goal
 
 pub returns-in_default : goal.returns-in_default

@@ -4,7 +4,6 @@ use mathlib.Core.Path.{refl}
 use Rattle.hold.specs.Marking.{mark_thing}
 use Rattle.robot.specs.Library.{gives_wrote, not_written, marked_into, mark_against}
 use Rattle.robot.proofs.CallLaws.{matrix_read, matrix_refused, not_written_lem, told_no_thing, told_marked}
-use borrow.Author.Rules.{rules}
 use Rattle.robot.proofs.mark_bytes.mark_of.Goals as goal
 
 pub returns-in_default : goal.returns-in_default

@@ -3,7 +3,6 @@
 use Rattle.robot.specs.Library.{gives_wrote, not_written, moved, back_bytes}
 use Rattle.robot.proofs.CallLaws.{scheme_read, scheme_refused, not_written_lem, told_moved}
 use Rattle.moving.specs.Answers.{back_into}
-use borrow.Author.Rules.{rules}
 use Rattle.robot.proofs.move_bytes.slushferret_back.Goals as goal
 
 pub returns-in_default : goal.returns-in_default

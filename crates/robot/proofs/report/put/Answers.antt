@@ -3,7 +3,6 @@
 use native.Mathlib.Omega.{arith}
 use mathlib.Core.Path.{sym}
 use lib.Seq.{set_out}
-use borrow.Author.Rules.{rules}
 use Rattle.robot.proofs.report.put.Goals as goal
 
 pub returns-else-i-report : goal.returns-else-i-report

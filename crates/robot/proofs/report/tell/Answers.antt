@@ -1,7 +1,6 @@
 -- The five numbers, one after the other.
 -- Assumes nothing.
 use Rattle.robot.specs.Library.{reported}
-use borrow.Author.Rules.{rules}
 use Rattle.robot.proofs.report.tell.Goals as goal
 
 pub returns : goal.returns

@@ -1,6 +1,5 @@
 -- What a writing answered, by its two cases.
 -- Assumes nothing.
-use borrow.Author.Rules.{rules}
 use Rattle.robot.proofs.report.tell_writing.Goals as goal
 
 pub returns-in-Done : goal.returns-in-Done

@@ -1,13 +1,11 @@
 -- A matrix is read against a scheme; the run is tried first where the output might be too short.
 -- Assumes nothing.
-use mathlib.Core.Logic.{⊎_elim}
 use mathlib.Core.Path.{refl}
 use lib.Dec.{T}
 use Rattle.model.specs.Accepted.{accepted_matrix}
 use Rattle.robot.specs.Library.{gives_ran, not_run, run_matrix, run_against}
 use Rattle.robot.proofs.CallLaws.{matrix_read, matrix_refused, not_run_lem}
 use Rattle.robot.proofs.RunLaws.{read_accepted, always_fits, answers_short, out_short, tried_fits}
-use borrow.Author.Rules.{rules}
 use Rattle.robot.proofs.run.run_of.Goals as goal
 use Rattle.robot.proofs.run.run_of.Goals.{In-Done, then-out-lt-LARGEST+else-answers-need+else-out-need, else-out-lt-LARGEST}
 
@@ -45,10 +43,14 @@ returns-then-out-need c =
 pub run_on-requires : goal.run_on-requires
 run_on-requires c =
     let t = c.requires in
-    let u = matrix_accepted (goal.at.run_on-requires c).In-Done in
-    (t, u, elim c.if-out-lt-LARGEST.branch
-        [ then-out-lt-LARGEST+else-answers-need+else-out-need w ↦ tried_fits _ _ _ _ w.trial_of-need.ensures _ w.if-out-need.false
-        | else-out-lt-LARGEST w ↦ always_fits _ t _ u _ _ w.if-out-lt-LARGEST.false ])
+    let u = matrix_accepted (goal.at.run_on-requires c).In-Done in (
+      t,
+      u,
+      elim c.if-out-lt-LARGEST.branch [
+        | then-out-lt-LARGEST+else-answers-need+else-out-need w ↦ tried_fits _ _ _ _ w.trial_of-need.ensures _ w.if-out-need.false
+        | else-out-lt-LARGEST w ↦ always_fits _ t _ u _ _ w.if-out-lt-LARGEST.false
+      ],
+    )
 
 pub returns : goal.returns
 unfolding run_against

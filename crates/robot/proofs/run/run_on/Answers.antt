@@ -1,7 +1,6 @@
 -- The list is run; where it was not refused as a whole, the matrix afterwards is written.
 -- Assumes nothing.
 use Rattle.robot.proofs.RunLaws.{run_short, run_long}
-use borrow.Author.Rules.{rules}
 use Rattle.robot.proofs.run.run_on.Goals as goal
 
 pub returns-in-Refused : goal.returns-in-Refused

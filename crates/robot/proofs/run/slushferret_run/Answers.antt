@@ -2,7 +2,6 @@
 -- Assumes nothing.
 use Rattle.robot.specs.Library.{gives_ran, not_run, run_against, run_bytes}
 use Rattle.robot.proofs.CallLaws.{scheme_accepted, scheme_read, scheme_refused, not_run_lem}
-use borrow.Author.Rules.{rules}
 use Rattle.robot.proofs.run.slushferret_run.Goals as goal
 
 pub returns-in_default : goal.returns-in_default

@@ -2,7 +2,6 @@
 -- Assumes nothing.
 use Rattle.robot.specs.Library.{request_bytes}
 use Rattle.robot.proofs.CallLaws.{told_wrote}
-use borrow.Author.Rules.{rules}
 use Rattle.robot.proofs.run.slushferret_write_request.Goals as goal
 
 pub returns : goal.returns

@@ -1,6 +1,5 @@
 -- How a list ended, by its three cases.
 -- Assumes nothing.
-use borrow.Author.Rules.{rules}
 use Rattle.robot.proofs.run.tell_ended.Goals as goal
 
 pub returns-in-Whole : goal.returns-in-Whole

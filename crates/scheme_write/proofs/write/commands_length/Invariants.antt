@@ -1,11 +1,9 @@
 -- `write::commands_length` meets its contract: after j turns, the sum and the records that are left are as long as all of them.
 -- Assumes nothing.
 use Prim.Native.Nat.{◌+◌, ◌-◌, ◌≤◌}
-use native.Mathlib.Omega.{arith}
 use mathlib.Core.Path.{◌≡◌}
 use lib.ListN.{length, take, drop}
-use borrow.Author.Rules.{rules}
-use Rattle.scheme_write.proofs.WriteLaws.{command_record, past, each_none, commands_there, commands_few, command_small, commands_next}
+use Rattle.scheme_write.proofs.WriteLaws.{command_record}
 use Rattle.records.specs.Bytes.{each_bytes}
 use Rattle.scheme_write.proofs.write.commands_length.Given as goal
 

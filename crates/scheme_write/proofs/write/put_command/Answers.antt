@@ -4,7 +4,6 @@ use Prim.Native.Nat.{◌%◌}
 use native.Mathlib.Omega.{arith}
 use mathlib.Core.Path.{◌≡◌, ◌∙◌}
 use lib.ListN.{length}
-use borrow.Author.Rules.{rules}
 use Rattle.command_bytes.specs.Write.{command_bytes}
 use Rattle.scheme_write.proofs.WriteLaws.{length_command, command_stored}
 use Rattle.scheme_write.proofs.write.put_command.Goals as goal

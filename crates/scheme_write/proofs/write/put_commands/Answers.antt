@@ -1,9 +1,7 @@
 -- `write::put_commands` meets its contract: after j turns, placing the records that are left behind the last one gives all of them.
 -- Assumes nothing.
-use Prim.Native.Nat.{◌-◌, ◌≤◌}
 use native.Mathlib.Omega.{arith}
-use borrow.Author.Rules.{rules}
-use Rattle.scheme_write.proofs.WriteLaws.{command_record, Placing, placing_start, placing_end, command_room, command_on, commands_there, command_small}
+use Rattle.scheme_write.proofs.WriteLaws.{placing_start, placing_end, command_room, command_on, commands_there, command_small}
 use Rattle.scheme_write.proofs.write.put_commands.Goals as goal
 
 pub loop-j-init : goal.loop-j-init

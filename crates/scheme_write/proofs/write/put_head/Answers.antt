@@ -1,7 +1,6 @@
 -- `write::put_head` meets its contract: a front and the head's fields stored one behind the other are its record's bytes.
 -- Assumes nothing.
 use mathlib.Core.Path.{◌∙◌}
-use borrow.Author.Rules.{rules}
 use Rattle.scheme_write.proofs.WriteLaws.{head_stored}
 use Rattle.scheme_write.proofs.write.put_head.Goals as goal
 

@@ -2,7 +2,6 @@
 -- Assumes nothing.
 use mathlib.Core.Path.{◌∙◌}
 use Rattle.scheme_write.proofs.WriteLaws.{named_stored}
-use borrow.Author.Rules.{rules}
 use Rattle.scheme_write.proofs.write.put_named.Goals as goal
 
 pub returns : goal.returns

@@ -1,13 +1,12 @@
 -- `write::put_operations` meets its contract: after j turns, what is left to store is what remains of the operations' bytes.
 -- Assumes nothing.
-use Prim.Native.Nat.{◌+◌, ◌*◌, ◌-◌, ◌≤◌}
 use native.Mathlib.Omega.{arith}
 use mathlib.Core.Path.{◌≡◌}
 use lib.ListN.{length}
 use borrow.Author.Rules.{rules}
 use Rattle.laws.proofs.Walks.{long}
 use Rattle.command_bytes.specs.Write.{operation_bytes}
-use Rattle.scheme_write.proofs.WriteLaws.{Storing, storing_start, storing_on, storing_end}
+use Rattle.scheme_write.proofs.WriteLaws.{storing_start, storing_on, storing_end}
 use Rattle.model.specs.Scheme.{no_operation}
 use Rattle.scheme_write.proofs.write.put_operations.Goals as goal
 
@@ -18,11 +17,10 @@ loop-j-init c =
 
 pub loop-j-preserved : goal.loop-j-preserved
 unfolding operation_bytes
-loop-j-preserved c =
-    (
-      omega arith,
-      storing_on operation_bytes c.loop-j.invariant.1 no_operation _ _ c.loop-j-test.true c.put_operation.ensures (omega arith),
-    )
+loop-j-preserved c = (
+  omega arith,
+  storing_on operation_bytes c.loop-j.invariant.1 no_operation _ _ c.loop-j-test.true c.put_operation.ensures (omega arith),
+)
 
 pub shape_of-part : goal.shape_of-part
 shape_of-part c = c.loop-j.invariant.1.same

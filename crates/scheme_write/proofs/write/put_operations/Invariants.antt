@@ -1,14 +1,8 @@
 -- `write::put_operations` meets its contract: after j turns, what is left to store is what remains of the operations' bytes.
 -- Assumes nothing.
 use Prim.Native.Nat.{◌+◌, ◌*◌, ◌-◌, ◌≤◌}
-use native.Mathlib.Omega.{arith}
-use mathlib.Core.Path.{◌≡◌}
-use lib.ListN.{length}
-use borrow.Author.Rules.{rules}
-use Rattle.laws.proofs.Walks.{long}
 use Rattle.command_bytes.specs.Write.{operation_bytes}
-use Rattle.scheme_write.proofs.WriteLaws.{Storing, storing_start, storing_on, storing_end}
-use Rattle.model.specs.Scheme.{no_operation}
+use Rattle.scheme_write.proofs.WriteLaws.{Storing}
 use Rattle.scheme_write.proofs.write.put_operations.Given as goal
 
 abbrev pub invariant-loop-j : goal.invariant-loop-j

@@ -1,13 +1,12 @@
 -- `write::put_types` meets its contract: after j turns, what is left to store is what remains of the types' bytes.
 -- Assumes nothing.
-use Prim.Native.Nat.{◌+◌, ◌-◌, ◌≤◌}
 use native.Mathlib.Omega.{arith}
 use mathlib.Core.Path.{◌≡◌}
 use lib.ListN.{length}
 use borrow.Author.Rules.{rules}
 use Rattle.laws.proofs.Walks.{long}
 use Rattle.command_bytes.specs.Write.{type_bytes}
-use Rattle.scheme_write.proofs.WriteLaws.{Storing, storing_start, storing_on, storing_end}
+use Rattle.scheme_write.proofs.WriteLaws.{storing_start, storing_on, storing_end}
 use Rattle.model.specs.Scheme.{no_type}
 use Rattle.scheme_write.proofs.write.put_types.Goals as goal
 

@@ -3,7 +3,6 @@
 use native.Mathlib.Omega.{arith}
 use mathlib.Core.Path.{sym, ◌∙◌}
 use borrow.Author.Tests.{not-true, not-false}
-use borrow.Author.Rules.{rules}
 use Rattle.laws.proofs.Bools.{from_true}
 use Rattle.scheme_write.proofs.WriteLaws.{scheme_refused, scheme_short, scheme_done}
 use Rattle.scheme_write.proofs.write.write_scheme.Goals as goal
