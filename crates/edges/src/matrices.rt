@@ -1,26 +1,34 @@
 // The tasks 10 to 19, which change the things or are lent the cells: a matrix is read, set, copied, converted or marked, and a request planned.
 use crate::checks::marked;
-use crate::{case, plans, print};
+use crate::print::Line;
+use crate::{case, plans};
 use matrix_bytes::MatrixAnswer;
 use model::{Scheme, Things};
 use rights::ThingType;
 
-pub(crate) fn told(read: MatrixAnswer) -> Things {
+pub(crate) fn told(line: &mut Line, read: MatrixAnswer) -> Things {
     let answer = read.answer;
-    print::reading(answer);
+    line.reading(answer);
     read.things
 }
 
-fn read(by_head: bool, b: &[u8], s: Scheme, th: Things, cells: &mut [u64]) -> Things {
+fn read(
+    line: &mut Line,
+    by_head: bool,
+    b: &[u8],
+    s: Scheme,
+    th: Things,
+    cells: &mut [u64],
+) -> Things {
     if by_head {
         let h = s.head;
-        return told(matrix_bytes::read_matrix_by_head(b, h, th, cells));
+        return told(line, matrix_bytes::read_matrix_by_head(b, h, th, cells));
     }
-    told(matrix_bytes::read_matrix(b, s, th, cells))
+    told(line, matrix_bytes::read_matrix(b, s, th, cells))
 }
 
-fn convert(s: Scheme, th: Things, cells: &mut [u64]) -> Things {
-    print::conversion(convert::converted_cells(s, th, cells));
+fn convert(line: &mut Line, s: Scheme, th: Things, cells: &mut [u64]) -> Things {
+    line.conversion(convert::converted_cells(s, th, cells));
     th
 }
 
@@ -41,10 +49,10 @@ fn set_highest(th: Things, at: usize) -> Things {
 }
 
 // The tasks that need no cells.
-fn alone(task: u8, b: &[u8], at: usize, s: Scheme, th: Things) -> Things {
+fn alone(line: &mut Line, task: u8, b: &[u8], at: usize, s: Scheme, th: Things) -> Things {
     match task {
         14 => things::no_things(),
-        15 => plans::task(b, at, s, th),
+        15 => plans::task(line, b, at, s, th),
         17 => set_highest(th, at),
         _ => things::put_thing(
             th,
@@ -56,17 +64,23 @@ fn alone(task: u8, b: &[u8], at: usize, s: Scheme, th: Things) -> Things {
     }
 }
 
-pub(crate) fn task(case: &[u8], s: Scheme, th: Things, cells: &mut [u64]) -> Things {
+pub(crate) fn task(
+    line: &mut Line,
+    case: &[u8],
+    s: Scheme,
+    th: Things,
+    cells: &mut [u64],
+) -> Things {
     let b = case::bytes(case);
     let at = case::position(case);
     let task = case::one_at(case, 0);
     match task {
-        10 => read(false, b, s, th, cells),
-        11 => read(true, b, s, th, cells),
+        10 => read(line, false, b, s, th, cells),
+        11 => read(line, true, b, s, th, cells),
         12 => copy(b, at, th, cells),
-        13 => convert(s, th, cells),
-        18 => marked(hold::hold(s, th, cells, case::two_at(b, 0))),
-        19 => marked(hold::release(s, th, cells, case::two_at(b, 0))),
-        _ => alone(task, b, at, s, th),
+        13 => convert(line, s, th, cells),
+        18 => marked(line, hold::hold(s, th, cells, case::two_at(b, 0))),
+        19 => marked(line, hold::release(s, th, cells, case::two_at(b, 0))),
+        _ => alone(line, task, b, at, s, th),
     }
 }

@@ -1,5 +1,6 @@
 // The tasks 30 to 34: a scheme or a matrix written into a lent buffer, as it is or converted.
-use crate::{case, print};
+use crate::case;
+use crate::print::Line;
 use model::{Scheme, Things};
 use records::Writing;
 
@@ -14,7 +15,14 @@ fn write(task: u8, s: Scheme, th: Things, cells: &[u64], out: &mut [u8]) -> Writ
     }
 }
 
-pub(crate) fn task(case: &[u8], s: Scheme, th: Things, cells: &[u64], out: &mut [u8]) {
+pub(crate) fn task(
+    line: &mut Line,
+    case: &[u8],
+    s: Scheme,
+    th: Things,
+    cells: &[u64],
+    out: &mut [u8],
+) {
     let answer = write(case::one_at(case, 0), s, th, cells, out);
-    print::written(answer, out);
+    line.written(answer, out);
 }

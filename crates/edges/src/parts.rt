@@ -1,27 +1,28 @@
 // The tasks 90 to 93: the head of a scheme, and the records of a matrix, each in the context that those before it left.
-use crate::{case, print};
+use crate::case;
+use crate::print::Line;
 use matrix_records::{CellAt, ThingAt};
 use model::{Head, Scheme, Things};
 use records::Kinds;
 
-fn scheme_head(b: &[u8], at: usize) {
+fn scheme_head(line: &mut Line, b: &[u8], at: usize) {
     let answer = command_bytes::read_head(b, at);
-    print::pair(answer.number(), answer.at());
+    line.pair(answer.number(), answer.at());
     if let command_bytes::HeadAt::Good { head, next } = answer {
-        print::byte(head.rights);
-        print::byte(head.types);
-        print::number(head.subjects.0 as u64);
-        print::pair(head.count, next);
+        line.byte(head.rights);
+        line.byte(head.types);
+        line.number(head.subjects.0 as u64);
+        line.pair(head.count, next);
     }
 }
 
 // ---- of a matrix: before the bytes stand the kinds, the id of the row or of the thing before, that of the column, how many things there are, and the highest
 // id that the head states
 
-fn head(b: &[u8], at: usize, h: Head) {
+fn head(line: &mut Line, b: &[u8], at: usize, h: Head) {
     let kinds = Kinds(case::two_at(b, 0));
     let answer = matrix_records::read_head(records::body(b, 16, 65536), at, kinds, h);
-    print::pair(answer.number(), answer.at());
+    line.pair(answer.number(), answer.at());
     if let matrix_records::HeadAt::Good {
         kind,
         count,
@@ -29,11 +30,11 @@ fn head(b: &[u8], at: usize, h: Head) {
         next,
     } = answer
     {
-        print::numbers(&[kind as u64, count as u64, highest as u64, next as u64]);
+        line.numbers(&[kind as u64, count as u64, highest as u64, next as u64]);
     }
 }
 
-fn thing(b: &[u8], at: usize, h: Head) {
+fn thing(line: &mut Line, b: &[u8], at: usize, h: Head) {
     let kinds = Kinds(case::two_at(b, 0));
     let last = case::two_at(b, 2);
     let highest = case::two_at(b, 14);
@@ -45,15 +46,15 @@ fn thing(b: &[u8], at: usize, h: Head) {
         highest,
         last,
     );
-    print::pair(answer.number(), answer.at());
+    line.pair(answer.number(), answer.at());
     if let ThingAt::Good { kind, id, of, next } = answer {
-        print::number(kind as u64);
-        print::number(id as u64);
-        print::pair(of.byte(), next);
+        line.number(kind as u64);
+        line.number(id as u64);
+        line.pair(of.byte(), next);
     }
 }
 
-fn cell(b: &[u8], at: usize, h: Head, th: Things) {
+fn cell(line: &mut Line, b: &[u8], at: usize, h: Head, th: Things) {
     let answer = matrix_records::read_cell(
         records::body(b, 16, 65536),
         at,
@@ -64,7 +65,7 @@ fn cell(b: &[u8], at: usize, h: Head, th: Things) {
         case::two_at(b, 2),
         case::two_at(b, 4),
     );
-    print::pair(answer.number(), answer.at());
+    line.pair(answer.number(), answer.at());
     if let CellAt::Good {
         kind,
         row,
@@ -74,7 +75,7 @@ fn cell(b: &[u8], at: usize, h: Head, th: Things) {
         next,
     } = answer
     {
-        print::numbers(&[
+        line.numbers(&[
             kind as u64,
             row as u64,
             column as u64,
@@ -85,14 +86,14 @@ fn cell(b: &[u8], at: usize, h: Head, th: Things) {
     }
 }
 
-pub(crate) fn task(case: &[u8], s: Scheme, th: Things) {
+pub(crate) fn task(line: &mut Line, case: &[u8], s: Scheme, th: Things) {
     let b = case::bytes(case);
     let at = case::position(case);
     let h = s.head;
     match case::one_at(case, 0) {
-        90 => scheme_head(b, at),
-        91 => head(b, at, h),
-        92 => thing(b, at, h),
-        _ => cell(b, at, h, th),
+        90 => scheme_head(line, b, at),
+        91 => head(line, b, at, h),
+        92 => thing(line, b, at, h),
+        _ => cell(line, b, at, h, th),
     }
 }

@@ -1,20 +1,21 @@
 // The task 15: where a request's things sit, and what its creates and destroys make of them, whose spots are given.
-use crate::{case, print, sum, values};
+use crate::print::Line;
+use crate::{case, sum, values};
 use model::{Scheme, Things, Verdict};
 use rights::Parameter;
 
-fn verdict(answer: Verdict) {
+fn verdict(line: &mut Line, answer: Verdict) {
     match answer {
-        Verdict::Done => print::pair(0, 0),
-        Verdict::Refused(r) => print::pair(r.number, r.place as usize),
+        Verdict::Done => line.pair(0, 0),
+        Verdict::Refused(r) => line.pair(r.number, r.place as usize),
     }
 }
 
 // The answer, all spots, and one of them.
-fn told(answer: Verdict, spots: [u8; 8], at: usize) {
-    verdict(answer);
-    print::number(sum::bytes(&spots));
-    print::byte(plan::seat_at(spots, Parameter((at % 256) as u8)));
+fn told(line: &mut Line, answer: Verdict, spots: [u8; 8], at: usize) {
+    verdict(line, answer);
+    line.number(sum::bytes(&spots));
+    line.byte(plan::seat_at(spots, Parameter((at % 256) as u8)));
 }
 
 // Before the request stand two spots: the first is that of every parameter but the second.
@@ -25,7 +26,7 @@ fn spots(b: &[u8]) -> [u8; 8] {
 }
 
 // The things are then those that the plan leaves.
-pub(crate) fn task(b: &[u8], at: usize, s: Scheme, th: Things) -> Things {
+pub(crate) fn task(line: &mut Line, b: &[u8], at: usize, s: Scheme, th: Things) -> Things {
     let q = records::body(b, 2, 65536);
     let c = values::command_at(s, case::one_at(q, 0) as usize);
     let types = c.parameters;
@@ -35,10 +36,10 @@ pub(crate) fn task(b: &[u8], at: usize, s: Scheme, th: Things) -> Things {
     let located = plan::locate(th, types, operations, &ids[0..n]);
     let found = located.answer;
     let seats = located.spots;
-    told(found, seats, at);
+    told(line, found, seats, at);
     let planned = plan::plan_all(th, spots(b), types, &ids[0..n], operations);
     let answer = planned.answer;
     let to = planned.spots;
-    told(answer, to, at);
+    told(line, answer, to, at);
     planned.things
 }

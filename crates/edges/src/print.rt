@@ -1,67 +1,92 @@
-// The parts of a line: numbers and answers. An answer's number and position are told by its own methods, with 0 for a position that it doesn't have.
+// The line that a case prints, put together in memory and written at once: numbers and answers. An answer's number and position are told by its own
+// methods, with 0 for a position that it doesn't have.
 use crate::sum;
 use convert::Conversion;
-use libc::STDOUT_FILENO;
 use records::{Reading, RecordAnswer, Writing};
+use std::io::{Print, Result, Stdout};
 
-pub(crate) fn text(bytes: &[u8]) {
-    io::write_all(STDOUT_FILENO, bytes);
+// The longest label has 255 bytes, and no task prints twenty numbers behind it.
+const ROOM: usize = 1024;
+
+#[derive(Drop)]
+pub(crate) struct Line {
+    text: [u8; ROOM],
+    length: usize,
 }
 
-pub(crate) fn number(x: u64) {
-    text(b" ");
-    io::print_decimal(STDOUT_FILENO, x);
-}
-
-pub(crate) fn numbers(list: &[u64]) {
-    let mut i: usize = 0;
-    while i < list.len() {
-        number(list[i]);
-        i += 1;
+impl Line {
+    pub(crate) fn empty() -> Line {
+        Line {
+            text: [0; ROOM],
+            length: 0,
+        }
     }
-}
 
-pub(crate) fn byte(x: u8) {
-    number(x as u64);
-}
-
-pub(crate) fn pair(x: u8, y: usize) {
-    byte(x);
-    number(y as u64);
-}
-
-pub(crate) fn flag(holds: bool) {
-    number(holds as u64);
-}
-
-pub(crate) fn reading(answer: Reading) {
-    pair(answer.number(), answer.at());
-    if let Reading::Done { next } = answer {
-        number(next as u64);
+    // Writes what was put, and begins the next line.
+    pub(crate) fn end(&mut self, to: &Stdout) -> Result<()> {
+        self.text(b"\n");
+        let length = self.length;
+        self.length = 0;
+        to.write_all(records::body(&self.text, 0, length))
     }
-}
 
-pub(crate) fn record(answer: RecordAnswer) {
-    pair(answer.number(), answer.at());
-    if let RecordAnswer::Record { kind, start, len } = answer {
-        number(kind as u64);
-        number(start as u64);
-        number(len as u64);
+    pub(crate) fn text(&mut self, bytes: &[u8]) {
+        self.length = lines::put_text(&mut self.text, self.length, bytes);
     }
-}
 
-// The answer of a writing, and the sum of the buffer that it was lent.
-pub(crate) fn written(answer: Writing, out: &[u8]) {
-    byte(answer.number());
-    if let Writing::Done { next } = answer {
-        number(next as u64);
+    pub(crate) fn number(&mut self, x: u64) {
+        self.text(b" ");
+        self.length = lines::put_decimal(&mut self.text, self.length, x);
     }
-    number(sum::bytes(out));
-}
 
-pub(crate) fn conversion(answer: Conversion) {
-    match answer {
-        Conversion::Done => number(0),
-        Conversion::Refused(x) => byte(x),
+    pub(crate) fn numbers(&mut self, list: &[u64]) {
+        for x in list {
+            self.number(*x);
+        }
+    }
+
+    pub(crate) fn byte(&mut self, x: u8) {
+        self.number(x as u64);
+    }
+
+    pub(crate) fn pair(&mut self, x: u8, y: usize) {
+        self.byte(x);
+        self.number(y as u64);
+    }
+
+    pub(crate) fn flag(&mut self, holds: bool) {
+        self.number(holds as u64);
+    }
+
+    pub(crate) fn reading(&mut self, answer: Reading) {
+        self.pair(answer.number(), answer.at());
+        if let Reading::Done { next } = answer {
+            self.number(next as u64);
+        }
+    }
+
+    pub(crate) fn record(&mut self, answer: RecordAnswer) {
+        self.pair(answer.number(), answer.at());
+        if let RecordAnswer::Record { kind, start, len } = answer {
+            self.number(kind as u64);
+            self.number(start as u64);
+            self.number(len as u64);
+        }
+    }
+
+    // The answer of a writing, and the sum of the buffer that it was lent.
+    pub(crate) fn written(&mut self, answer: Writing, out: &[u8]) {
+        self.byte(answer.number());
+        if let Writing::Done { next } = answer {
+            self.number(next as u64);
+        }
+        self.number(sum::bytes(out));
+    }
+
+    pub(crate) fn conversion(&mut self, answer: Conversion) {
+        match answer {
+            Conversion::Done => self.number(0),
+            Conversion::Refused(x) => self.byte(x),
+        }
     }
 }

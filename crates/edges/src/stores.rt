@@ -1,5 +1,6 @@
 // The tasks 40 to 53: a request, a record, bytes, a number of some bytes or text stored at a position of a lent buffer.
-use crate::{case, print, texts};
+use crate::print::Line;
+use crate::{case, texts};
 use records::Writing;
 
 fn write_request(b: &[u8], at: usize, out: &mut [u8]) -> Writing {
@@ -15,7 +16,7 @@ fn write_record(b: &[u8], at: usize, out: &mut [u8]) -> Writing {
 
 // A body of so many zeros.
 fn write_zeros(b: &[u8], at: usize, out: &mut [u8]) -> Writing {
-    let zeros = io::large_buffer();
+    let zeros = [0u8; 65536];
     let n = case::least(case::eight_at(b, 2) as usize, 65536);
     records::write_record(out, at, case::two_at(b, 0), &zeros[0..n])
 }
@@ -44,12 +45,12 @@ fn store(task: u8, b: &[u8], at: usize, out: &mut [u8]) -> Writing {
     }
 }
 
-pub(crate) fn task(case: &[u8], out: &mut [u8]) {
+pub(crate) fn task(line: &mut Line, case: &[u8], out: &mut [u8]) {
     let answer = store(
         case::one_at(case, 0),
         case::bytes(case),
         case::position(case),
         out,
     );
-    print::written(answer, out);
+    line.written(answer, out);
 }

@@ -8,20 +8,16 @@ fn add(sum: u64, x: u64) -> u64 {
 
 pub(crate) fn bytes(b: &[u8]) -> u64 {
     let mut sum: u64 = 1;
-    let mut i: usize = 0;
-    while i < b.len() {
-        sum = add(sum, b[i] as u64);
-        i += 1;
+    for x in b {
+        sum = add(sum, *x as u64);
     }
     sum
 }
 
 pub(crate) fn ids(ids: &[u16]) -> u64 {
     let mut sum: u64 = 1;
-    let mut i: usize = 0;
-    while i < ids.len() {
-        sum = add(sum, ids[i] as u64);
-        i += 1;
+    for x in ids {
+        sum = add(sum, *x as u64);
     }
     sum
 }
@@ -29,23 +25,18 @@ pub(crate) fn ids(ids: &[u16]) -> u64 {
 // By halves, so that no two sets are one number.
 fn cells(from: u64, cells: &[u64]) -> u64 {
     let mut sum = from;
-    let mut k: usize = 0;
-    while k < cells.len() {
-        let c = cells[k];
-        sum = add(add(sum, c % 4294967296), c / 4294967296);
-        k += 1;
+    for c in cells {
+        sum = add(add(sum, *c % 4294967296), *c / 4294967296);
     }
     sum
 }
 
 fn things(th: Things) -> u64 {
     let mut sum: u64 = 1;
-    let mut i: usize = 0;
-    while i < 48 {
+    for i in 0..48 {
         let t = th.types[i];
         sum = add(add(sum, th.ids[i] as u64), t.0 as u64);
         sum = add(sum, th.marks[i] as u64);
-        i += 1;
     }
     sum
 }

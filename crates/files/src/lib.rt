@@ -1,8 +1,14 @@
 // Files read and written as every tool of the house does it. No contract can say what the system reads or writes, so these functions promise only that
 // they are safe and end; what they do is tested (tests/).
+#![tactic(auto)]
+
+mod both;
 mod names;
 mod read;
+mod told;
 mod write;
 
+pub use both::write_two;
 pub use read::{Loaded, read_file};
-pub use write::{write_file, write_two};
+pub use told::tell_failure;
+pub use write::write_file;

@@ -1,11 +1,28 @@
-// The name under which a file is written before it takes the place of the old one: its own with `.new` behind it.
+// The names of files. A word of the command line may be any bytes, and the library opens a file only by a name in UTF-8.
+use crate::told::tell;
 
-// Puts that name into a buffer and gives its length. Where the buffer is too short the name is too long for the system as well, which then says so.
-pub(crate) fn put_new_name(path: &[u8], name: &mut [u8]) -> usize {
-    let n = lines::put_text(name, 0, path);
-    lines::put_text(name, n, b".new")
+// A path as text. One that isn't text can't be opened here, which is told.
+pub(crate) fn text_of<'a>(rt: &HostRuntime, path: &'a [u8]) -> Option<&'a str> {
+    match str::from_utf8(path) {
+        Ok(text) => Some(text),
+        Err(_) => {
+            tell(
+                rt,
+                path,
+                b": not a name in UTF-8, and no other can be opened\n",
+            );
+            None
+        }
+    }
 }
 
-pub(crate) fn room() -> [u8; 8192] {
-    [0; 8192]
+// The name under which a file is written before it takes the place of the old one: its own with `.new` behind it.
+pub(crate) fn new_name(rt: &HostRuntime, path: &str) -> Option<String> {
+    match format!(in rt.alloc(); "{path}.new") {
+        Ok(name) => Some(name),
+        Err(_) => {
+            tell(rt, path.as_bytes(), b": out of memory\n");
+            None
+        }
+    }
 }

@@ -1,186 +1,124 @@
 // Files written whole: under another name first, brought to the disk, then renamed, so that a power cut leaves the old file or the new one. Where
 // something fails, the system's reason is told on standard error and the folder is left as it was.
-use crate::names::{put_new_name, room};
-use crate::read::{Loaded, look};
+use crate::names::{new_name, text_of};
+use crate::told::{tell, tell_failure};
+use std::fs;
+use std::fs::{File, OpenOptions};
+use std::io::{ErrorKind, Result, Write};
 
-fn tell(path: &[u8], words: &[u8]) {
-    io::write_all(libc::STDERR_FILENO, path);
-    io::write_all(libc::STDERR_FILENO, words);
+// A file that is to be written: its name, the name that it has before it takes its place, and its bytes.
+#[derive(Drop)]
+pub(crate) struct Output<'a> {
+    pub(crate) path: &'a str,
+    new: String,
+    bytes: &'a [u8],
+}
+
+pub(crate) fn output_of<'a>(
+    rt: &HostRuntime,
+    path: &'a [u8],
+    bytes: &'a [u8],
+) -> Option<Output<'a>> {
+    let Some(path) = text_of(rt, path) else {
+        return None;
+    };
+    let Some(new) = new_name(rt, path) else {
+        return None;
+    };
+    Some(Output { path, new, bytes })
 }
 
 // A device or a pipe has nothing that could be brought to the disk, and must not be replaced by a file.
-fn is_plain(path: &[u8], fd: i32) -> bool {
-    if libc::fsync(fd) == 0 {
-        return true;
+fn is_plain(rt: &HostRuntime, path: &str, file: &File) -> bool {
+    match file.sync_all() {
+        Ok(()) => true,
+        Err(error) if error.kind() == ErrorKind::InvalidInput => {
+            tell(
+                rt,
+                path.as_bytes(),
+                b": not a plain file, so that it can't be replaced by one\n",
+            );
+            false
+        }
+        Err(error) => {
+            tell_failure(rt, path.as_bytes(), error);
+            false
+        }
     }
-    if os::errno() == libc::EINVAL {
-        tell(
-            path,
-            b": not a plain file, so that it can't be replaced by one\n",
-        );
-    } else {
-        os::fail(path);
-    }
-    false
 }
 
 // Whether a file may take the place of what has that name: of nothing, or of a plain file. What can't be opened is left to the renaming.
-fn is_replaceable(path: &[u8]) -> bool {
-    let fd = os::open_update(path);
-    if fd < 0 {
-        if os::errno() == libc::EISDIR {
-            os::fail(path);
-            return false;
+pub(crate) fn is_replaceable(rt: &HostRuntime, path: &str) -> bool {
+    match OpenOptions::new().read(true).write(true).open(rt, path) {
+        Ok(file) => is_plain(rt, path, &file),
+        Err(error) if error.kind() == ErrorKind::IsADirectory => {
+            tell_failure(rt, path.as_bytes(), error);
+            false
         }
-        return true;
+        Err(_) => true,
     }
-    let may_go = is_plain(path, fd);
-    libc::close(fd);
-    may_go
-}
-
-// All of the bytes in an open file, on the disk and not only in the system's memory.
-fn put_all(fd: i32, bytes: &[u8]) -> bool {
-    if !io::write_all(fd, bytes) {
-        return false;
-    }
-    libc::fsync(fd) == 0
 }
 
 // The name has to be free, so that a link which somebody left there isn't followed, and two names of one file are found out.
-fn write_named(name: &[u8], bytes: &[u8]) -> bool {
-    let fd = os::create(name);
-    if fd < 0 {
-        os::fail(name);
-        return false;
-    }
-    let is_put = put_all(fd, bytes);
-    if !is_put {
-        os::fail(name);
-    }
-    let is_closed = libc::close(fd) == 0;
-    if is_put && is_closed {
-        return true;
-    }
-    if is_put {
-        os::fail(name);
-    }
-    os::unlink(name);
-    false
+fn create(rt: &HostRuntime, name: &str) -> Result<File> {
+    OpenOptions::new()
+        .write(true)
+        .create_new(true)
+        .open(rt, name)
 }
 
-fn write_new(path: &[u8], bytes: &[u8]) -> bool {
-    let mut name = room();
-    let n = put_new_name(path, &mut name);
-    write_named(records::body(&name, 0, n), bytes)
+// All of the bytes in an open file, on the disk and not only in the system's memory.
+fn put_all(file: &mut File, bytes: &[u8]) -> Result<()> {
+    file.write_all(bytes)?;
+    file.sync_all()
 }
 
-fn remove_new(path: &[u8]) {
-    let mut name = room();
-    let n = put_new_name(path, &mut name);
-    os::unlink(records::body(&name, 0, n));
+// What isn't there needs no removing, and what can't be removed is left.
+pub(crate) fn remove(rt: &HostRuntime, name: &str) {
+    let _ = fs::remove_file(rt, name);
 }
 
-fn rename_new(path: &[u8]) -> bool {
-    let mut name = room();
-    let n = put_new_name(path, &mut name);
-    if os::rename(records::body(&name, 0, n), path) == 0 {
-        return true;
-    }
-    os::fail(path);
-    os::unlink(records::body(&name, 0, n));
-    false
+pub(crate) fn remove_new(rt: &HostRuntime, output: &Output<'_>) {
+    remove(rt, output.new.as_str());
 }
 
-pub fn write_file(path: &[u8], bytes: &[u8]) -> bool {
-    if !is_replaceable(path) {
-        return false;
-    }
-    remove_new(path);
-    if !write_new(path, bytes) {
-        return false;
-    }
-    rename_new(path)
-}
-
-fn tell_lost(path: &[u8]) {
-    tell(path, b": is new already, and its old bytes are lost\n");
-}
-
-// What had the name before, where it was short enough to be kept.
-fn put_back(path: &[u8], was: Loaded, bytes: &[u8]) {
-    match was {
-        Loaded::Missing => {
-            os::unlink(path);
+pub(crate) fn write_new(rt: &HostRuntime, output: &Output<'_>) -> bool {
+    let name = output.new.as_str();
+    let mut file = match create(rt, name) {
+        Ok(file) => file,
+        Err(error) => {
+            tell_failure(rt, name.as_bytes(), error);
+            return false;
         }
-        Loaded::Whole(n) => {
-            write_file(path, records::body(bytes, 0, n));
+    };
+    match put_all(&mut file, output.bytes) {
+        Ok(()) => true,
+        Err(error) => {
+            tell_failure(rt, name.as_bytes(), error);
+            remove(rt, name);
+            false
         }
-        Loaded::Longer(_) => tell_lost(path),
-        Loaded::Failed => tell_lost(path),
     }
 }
 
-// Both or neither: the second renaming can still fail, and then the first is taken back.
-fn rename_two(first: &[u8], second: &[u8], was: Loaded, old: &[u8]) -> bool {
-    if !rename_new(first) {
-        remove_new(second);
-        return false;
+pub(crate) fn rename_new(rt: &HostRuntime, output: &Output<'_>) -> bool {
+    match fs::rename(rt, output.new.as_str(), output.path) {
+        Ok(()) => true,
+        Err(error) => {
+            tell_failure(rt, output.path.as_bytes(), error);
+            remove_new(rt, output);
+            false
+        }
     }
-    if rename_new(second) {
-        return true;
-    }
-    put_back(first, was, old);
-    false
 }
 
-fn write_both_new(first: &[u8], one: &[u8], second: &[u8], other: &[u8]) -> bool {
-    if !write_new(first, one) {
-        return false;
-    }
-    if !write_new(second, other) {
-        remove_new(first);
-        return false;
-    }
-    true
-}
-
-fn is_there(path: &[u8]) -> bool {
-    let fd = os::open_read(path);
-    if fd < 0 {
-        return false;
-    }
-    libc::close(fd);
-    true
-}
-
-// Whether the first output came to be when the second was written under its name with `.new`: then they are one file, however it was spelt.
-fn is_in_between(first: &[u8], was: Loaded) -> bool {
-    let Loaded::Missing = was else {
+pub fn write_file(rt: &HostRuntime, path: &[u8], bytes: &[u8]) -> bool {
+    let Some(output) = output_of(rt, path, bytes) else {
         return false;
     };
-    is_there(first)
-}
-
-pub fn write_two(first: &[u8], one: &[u8], second: &[u8], other: &[u8]) -> bool {
-    if !is_replaceable(first) || !is_replaceable(second) {
+    if !is_replaceable(rt, output.path) {
         return false;
     }
-    remove_new(first);
-    remove_new(second);
-    let mut old = io::large_buffer();
-    let was = look(first, &mut old);
-    if !write_both_new(first, one, second, other) {
-        return false;
-    }
-    if is_in_between(first, was) {
-        tell(
-            first,
-            b": another output is written under this name first\n",
-        );
-        remove_new(first);
-        remove_new(second);
-        return false;
-    }
-    rename_two(first, second, was, &old)
+    remove_new(rt, &output);
+    write_new(rt, &output) && rename_new(rt, &output)
 }

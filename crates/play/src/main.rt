@@ -1,11 +1,13 @@
 // Reads scheme.bin, matrix.bin and requests.bin in the folder that it is started in, and prints what each request is answered. The text is made by
 // `printout`, which is proved; here is only what has to do with files.
+#![tactic(auto)]
+
 use files::Loaded;
-use libc::STDOUT_FILENO;
+use std::io::Print;
 
 // Of a file what the buffer holds of it; a missing file is empty input, and so is one that can't be read.
-fn input(path: &[u8], buf: &mut [u8]) -> usize {
-    match files::read_file(path, buf) {
+fn input(rt: &HostRuntime, path: &[u8], buf: &mut [u8]) -> usize {
+    match files::read_file(rt, path, buf) {
         Loaded::Whole(n) => n,
         Loaded::Longer(n) => n,
         Loaded::Missing => 0,
@@ -13,25 +15,31 @@ fn input(path: &[u8], buf: &mut [u8]) -> usize {
     }
 }
 
+fn large_buffer() -> [u8; 65536] {
+    [0; 65536]
+}
+
 // The largest text, of 10,922 requests, has 185,717 bytes at most.
 fn room() -> [u8; 262144] {
     [0; 262144]
 }
 
-fn print(scheme: &[u8], matrix: &[u8], requests: &[u8]) {
+// Where the text can't be written, as where nobody reads it any more, there is nobody to tell: the status is 0 all the same.
+fn print(rt: &HostRuntime, scheme: &[u8], matrix: &[u8], requests: &[u8]) {
     let mut text = room();
     let n = printout::printout(scheme, matrix, requests, &mut text);
-    io::write_all(STDOUT_FILENO, records::body(&text, 0, n));
+    let _ = rt.stdout().write_all(records::body(&text, 0, n));
 }
 
-fn main() {
-    let mut scheme = io::large_buffer();
-    let mut matrix = io::large_buffer();
-    let mut requests = io::large_buffer();
-    let a = input(b"scheme.bin", &mut scheme);
-    let b = input(b"matrix.bin", &mut matrix);
-    let c = input(b"requests.bin", &mut requests);
+fn main(rt: HostRuntime) {
+    let mut scheme = large_buffer();
+    let mut matrix = large_buffer();
+    let mut requests = large_buffer();
+    let a = input(&rt, b"scheme.bin", &mut scheme);
+    let b = input(&rt, b"matrix.bin", &mut matrix);
+    let c = input(&rt, b"requests.bin", &mut requests);
     print(
+        &rt,
         records::body(&scheme, 0, a),
         records::body(&matrix, 0, b),
         records::body(&requests, 0, c),

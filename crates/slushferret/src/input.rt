@@ -1,5 +1,6 @@
 // An input file, by its word.
 use crate::said::tell_of;
+use crate::words::{room, word_at};
 use files::Loaded;
 
 #[derive(Clone, Copy)]
@@ -9,23 +10,32 @@ pub(crate) enum Input {
     Unusable,
 }
 
-fn load_file(path: &[u8], buf: &mut [u8]) -> Input {
-    match files::read_file(path, buf) {
+// Room for the largest file that a tool takes.
+pub(crate) fn large_buffer() -> [u8; 65536] {
+    [0; 65536]
+}
+
+fn load_file(rt: &HostRuntime, path: &[u8], buf: &mut [u8]) -> Input {
+    match files::read_file(rt, path, buf) {
         Loaded::Whole(n) => Input::Bytes(n),
         Loaded::Longer(_) => {
-            tell_of(path, b": longer than 65536 bytes\n");
+            tell_of(rt, path, b": longer than 65536 bytes\n");
             Input::Unusable
         }
         Loaded::Missing => {
-            tell_of(path, b": there is no such file, so it counts as empty\n");
+            tell_of(
+                rt,
+                path,
+                b": there is no such file, so it counts as empty\n",
+            );
             Input::Bytes(0)
         }
         Loaded::Failed => Input::Unusable,
     }
 }
 
-pub(crate) fn load(word: usize, buf: &mut [u8]) -> Input {
-    let mut name = io::buffer();
-    let n = os::arg(word, &mut name);
-    load_file(&name[..n], buf)
+pub(crate) fn load(rt: &HostRuntime, word: usize, buf: &mut [u8]) -> Input {
+    let mut name = room();
+    let n = word_at(rt, word, &mut name);
+    load_file(rt, records::body(&name, 0, n), buf)
 }

@@ -1,5 +1,7 @@
 // One program for all tools, started as `TOOL FILE..`. A thin one: what matters is done by proved functions on bytes, and here is only what has to do with
 // files and words.
+#![tactic(auto)]
+
 mod input;
 mod output;
 mod said;
@@ -11,6 +13,8 @@ mod tool_run;
 mod tools;
 mod words;
 
-fn main() {
-    said::give(tools::start());
+use std::process::ExitCode;
+
+fn main(rt: HostRuntime) -> ExitCode {
+    said::code(tools::start(&rt))
 }

@@ -1,5 +1,7 @@
 // What a tool says on standard output, what it tells on standard error, and how it ended.
-use libc::{STDERR_FILENO, STDOUT_FILENO};
+use crate::words::word_at;
+use std::io::Print;
+use std::process::ExitCode;
 
 #[derive(Clone, Copy)]
 pub(crate) enum Status {
@@ -9,16 +11,13 @@ pub(crate) enum Status {
     WrongUse,
 }
 
-// A Rattle program always ends with status 0, so the tool's own goes to this descriptor, for the script that started it.
-const SCRIPT: i32 = 3;
-
-pub(crate) fn give(status: Status) {
-    let digit = match status {
-        Status::Done => b'0',
-        Status::Failed => b'1',
-        Status::WrongUse => b'2',
-    };
-    io::write_all(SCRIPT, &[digit, b'\n']);
+// The status that the program ends with.
+pub(crate) fn code(status: Status) -> ExitCode {
+    match status {
+        Status::Done => ExitCode::SUCCESS,
+        Status::Failed => ExitCode::FAILURE,
+        Status::WrongUse => ExitCode::from(2),
+    }
 }
 
 // How a tool ended whose last words were taken, or weren't.
@@ -31,22 +30,24 @@ pub(crate) fn ended(is_said: bool) -> Status {
 }
 
 // Gives whether all of it was taken.
-pub(crate) fn say(text: &[u8]) -> bool {
-    let is_said = io::write_all(STDOUT_FILENO, text);
-    if !is_said {
-        os::fail(b"standard output");
+pub(crate) fn say(rt: &HostRuntime, text: &[u8]) -> bool {
+    match rt.stdout().write_all(text) {
+        Ok(()) => true,
+        Err(error) => {
+            files::tell_failure(rt, b"standard output", error);
+            false
+        }
     }
-    is_said
 }
 
 // For a line with a file's name, which is written at once.
-pub(crate) fn room() -> [u8; 8192] {
+pub(crate) fn line_room() -> [u8; 8192] {
     [0; 8192]
 }
 
 // A file's name as it was given, at the line's start, and words behind it.
-pub(crate) fn put_name(line: &mut [u8], word: usize, words: &[u8]) -> usize {
-    let n = os::arg(word, line);
+pub(crate) fn put_name(rt: &HostRuntime, line: &mut [u8], word: usize, words: &[u8]) -> usize {
+    let n = word_at(rt, word, line);
     lines::put_text(line, n, words)
 }
 
@@ -56,19 +57,26 @@ pub(crate) fn put_count(line: &mut [u8], at: usize, n: usize, words: &[u8]) -> u
     lines::put_text(line, p, words)
 }
 
-pub(crate) fn say_refused(word: usize, number: u8, at: usize, ending: &[u8]) -> bool {
-    let mut line = room();
-    let p = put_name(&mut line, word, b": refused with number ");
+pub(crate) fn say_refused(
+    rt: &HostRuntime,
+    word: usize,
+    number: u8,
+    at: usize,
+    ending: &[u8],
+) -> bool {
+    let mut line = line_room();
+    let p = put_name(rt, &mut line, word, b": refused with number ");
     let p = put_count(&mut line, p, number as usize, b" at position ");
     let p = put_count(&mut line, p, at, ending);
-    say(records::body(&line, 0, p))
+    say(rt, records::body(&line, 0, p))
 }
 
-pub(crate) fn tell(words: &[u8]) {
-    io::write_all(STDERR_FILENO, words);
+// Where standard error can't be written there is nobody to tell.
+pub(crate) fn tell(rt: &HostRuntime, words: &[u8]) {
+    let _ = rt.stderr().write_all(words);
 }
 
-pub(crate) fn tell_of(name: &[u8], words: &[u8]) {
-    tell(name);
-    tell(words);
+pub(crate) fn tell_of(rt: &HostRuntime, name: &[u8], words: &[u8]) {
+    tell(rt, name);
+    tell(rt, words);
 }

@@ -1,5 +1,5 @@
 // The tools `hold` and `release`: the matrix with the mark of a thing set or cleared.
-use crate::input::{Input, load};
+use crate::input::{Input, large_buffer, load};
 use crate::output::{refuse, write_one};
 use crate::said::Status;
 use crate::words::{ID, MATRIX, SCHEME, id_word};
@@ -22,31 +22,32 @@ fn call(
     }
 }
 
-fn mark(holds: bool, scheme: &[u8], matrix: &[u8], id: u16) -> Status {
-    let mut after = io::large_buffer();
+fn mark(rt: &HostRuntime, holds: bool, scheme: &[u8], matrix: &[u8], id: u16) -> Status {
+    let mut after = large_buffer();
     let mut report = [0usize; 5];
     let x = call(holds, scheme, matrix, id, &mut after, &mut report);
     if x != 0 {
-        return refuse(&report, x);
+        return refuse(rt, &report, x);
     }
-    write_one(OUT, records::body(&after, 0, report[3]))
+    write_one(rt, OUT, records::body(&after, 0, report[3]))
 }
 
-pub(crate) fn hold(holds: bool) -> Status {
-    let IdWord::Id(id) = id_word(ID) else {
+pub(crate) fn hold(rt: &HostRuntime, holds: bool) -> Status {
+    let IdWord::Id(id) = id_word(rt, ID) else {
         return Status::WrongUse;
     };
-    let mut scheme = io::large_buffer();
-    let mut matrix = io::large_buffer();
-    let loaded = load(SCHEME, &mut scheme);
+    let mut scheme = large_buffer();
+    let mut matrix = large_buffer();
+    let loaded = load(rt, SCHEME, &mut scheme);
     let Input::Bytes(a) = loaded else {
         return Status::Failed;
     };
-    let loaded = load(MATRIX, &mut matrix);
+    let loaded = load(rt, MATRIX, &mut matrix);
     let Input::Bytes(b) = loaded else {
         return Status::Failed;
     };
     mark(
+        rt,
         holds,
         records::body(&scheme, 0, a),
         records::body(&matrix, 0, b),

@@ -1,5 +1,5 @@
 // The tool `run`: carries out a list of requests and writes the matrix afterwards. The answers are printed first: if they can't be, nothing is written.
-use crate::input::{Input, load};
+use crate::input::{Input, large_buffer, load};
 use crate::output::{refuse, write_one};
 use crate::said::{Status, say};
 use crate::words::{MATRIX, SCHEME};
@@ -14,15 +14,15 @@ fn room() -> [u8; 262144] {
 }
 
 // Each request that can be read has its answer in front of the results; what is behind those isn't looked at.
-fn say_answers(requests: &[u8], results: &[u8]) -> bool {
+fn say_answers(rt: &HostRuntime, requests: &[u8], results: &[u8]) -> bool {
     let mut text = room();
     let n = printout::answers_text(requests, results, &mut text);
-    say(records::body(&text, 0, n))
+    say(rt, records::body(&text, 0, n))
 }
 
-fn run_list(scheme: &[u8], matrix: &[u8], requests: &[u8]) -> Status {
-    let mut results = io::large_buffer();
-    let mut after = io::large_buffer();
+fn run_list(rt: &HostRuntime, scheme: &[u8], matrix: &[u8], requests: &[u8]) -> Status {
+    let mut results = large_buffer();
+    let mut after = large_buffer();
     let mut report = [0usize; 5];
     let x = robot::slushferret_run(
         scheme,
@@ -33,35 +33,36 @@ fn run_list(scheme: &[u8], matrix: &[u8], requests: &[u8]) -> Status {
         &mut report,
     );
     if x != 0 {
-        return refuse(&report, x);
+        return refuse(rt, &report, x);
     }
-    if !say_answers(requests, &results) {
+    if !say_answers(rt, requests, &results) {
         return Status::Failed;
     }
-    let status = write_one(OUT, records::body(&after, 0, report[3]));
+    let status = write_one(rt, OUT, records::body(&after, 0, report[3]));
     if report[4] != 0 {
         return Status::Failed;
     }
     status
 }
 
-pub(crate) fn run() -> Status {
-    let mut scheme = io::large_buffer();
-    let mut matrix = io::large_buffer();
-    let mut requests = io::large_buffer();
-    let loaded = load(SCHEME, &mut scheme);
+pub(crate) fn run(rt: &HostRuntime) -> Status {
+    let mut scheme = large_buffer();
+    let mut matrix = large_buffer();
+    let mut requests = large_buffer();
+    let loaded = load(rt, SCHEME, &mut scheme);
     let Input::Bytes(a) = loaded else {
         return Status::Failed;
     };
-    let loaded = load(MATRIX, &mut matrix);
+    let loaded = load(rt, MATRIX, &mut matrix);
     let Input::Bytes(b) = loaded else {
         return Status::Failed;
     };
-    let loaded = load(REQUESTS, &mut requests);
+    let loaded = load(rt, REQUESTS, &mut requests);
     let Input::Bytes(c) = loaded else {
         return Status::Failed;
     };
     run_list(
+        rt,
         records::body(&scheme, 0, a),
         records::body(&matrix, 0, b),
         records::body(&requests, 0, c),
