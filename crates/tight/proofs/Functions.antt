@@ -80,8 +80,8 @@ records M = record {
   Writing-number = equation (λ κs a z w p i. (p i, z.1));
 }
 
-pub accepted_matrix_lem : (M : Type 1) → AcceptedMatrix M
-accepted_matrix_lem M = record {
+pub accepted_matrix : (M : Type 1) → AcceptedMatrix M
+accepted_matrix M = record {
   things_accepted = equation (λ κs a z w p i. (p i, z.1));
   matrix_accepted = equation (λ κs a z w p i. (p i, z.1));
 }
@@ -92,7 +92,7 @@ command_bytes M = record {
   HeadAt-at = equation (λ κs a z w p i. (p i, z.1));
   read_command = equation (λ κs a z w p i. (p i, z.1));
   read_head = equation (λ κs a z w p i. (p i, z.1));
-  no_command_lem = equation (λ κs a z w p i. (p i, z.1));
+  no_command = equation (λ κs a z w p i. (p i, z.1));
 }
 
 pub scheme_bytes : (M : Type 1) → SchemeBytes M
@@ -124,7 +124,7 @@ pub matrix_bytes : (M : Type 1) → MatrixBytes M
 matrix_bytes M = record {
   read_matrix = equation (λ κs a z w p i. ((p i).0, (tt, (tt, (tt, ((p i).1, z.1.1.1.1.1))))));
   read_matrix_by_head = equation (λ κs a z w p i. ((p i).0, (tt, (tt, (tt, ((p i).1, z.1.1.1.1.1))))));
-  read_rest_lem = equation (λ κs a z w p i. ((p i).0, (tt, (tt, (tt, (tt, (tt, (tt, ((p i).1, z.1.1.1.1.1.1.1.1)))))))));
+  read_rest = equation (λ κs a z w p i. ((p i).0, (tt, (tt, (tt, (tt, (tt, (tt, ((p i).1, z.1.1.1.1.1.1.1.1)))))))));
 }
 
 pub matrix_write : (M : Type 1) → MatrixWrite M

@@ -103,7 +103,7 @@ pub record CommandBytes (M : Type 1) : Type 2 where
   pub HeadAt-at : Tight M command_bytes.answers.HeadAt.at.ended (λ 𝓤. command_bytes.answers.HeadAt.at.clauses)
   pub read_command : Tight M command_bytes.read_command.ended (λ 𝓤. command_bytes.read_command.clauses)
   pub read_head : Tight M command_bytes.read_head.ended (λ 𝓤. command_bytes.read_head.clauses)
-  pub no_command_lem : Tight M command_bytes.no_command.ended (λ 𝓤. command_bytes.no_command.clauses)
+  pub no_command : Tight M command_bytes.no_command.ended (λ 𝓤. command_bytes.no_command.clauses)
 
 pub record SchemeBytes (M : Type 1) : Type 2 where
   pub no_scheme : Tight M scheme_bytes.no_scheme.ended (λ 𝓤. scheme_bytes.no_scheme.clauses)
@@ -127,7 +127,7 @@ pub record MatrixRecords (M : Type 1) : Type 2 where
 pub record MatrixBytes (M : Type 1) : Type 2 where
   pub read_matrix : Tight M matrix_bytes.read_matrix.ended (λ 𝓤. matrix_bytes.read_matrix.clauses)
   pub read_matrix_by_head : Tight M matrix_bytes.read_matrix_by_head.ended (λ 𝓤. matrix_bytes.read_matrix_by_head.clauses)
-  pub read_rest_lem : Tight M matrix_bytes.read_rest.ended (λ 𝓤. matrix_bytes.read_rest.clauses)
+  pub read_rest : Tight M matrix_bytes.read_rest.ended (λ 𝓤. matrix_bytes.read_rest.clauses)
 
 pub record MatrixWrite (M : Type 1) : Type 2 where
   pub write_matrix : Tight M matrix_write.write_matrix.ended (λ 𝓤. matrix_write.write_matrix.clauses)
