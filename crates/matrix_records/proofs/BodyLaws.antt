@@ -32,7 +32,7 @@ use Rattle.matrix_records.specs.Read.{head, thing, cell, thing_with, is_row, abo
 use Rattle.matrix_records.specs.Answers.{last_of, place_in}
 use Rattle.matrix_records.specs.Inner.Bodies.{cell_of, thing_id, as_seat, seat_number, rights_of}
 use Rattle.matrix_records.specs.declared.answers.Front.{Front}
-use Rattle.matrix_records.specs.declared.answers.CellAt.TheVariants as Cell-at
+use Rattle.matrix_records.specs.declared.answers.CellAt.TheVariants as cell_at
 use Rattle.matrix_records.specs.declared.answers.SeatAt.{SeatAt}
 use Rattle.matrix_records.specs.declared.answers.SeatAt.TheVariants as seat_at
 use Rattle.matrix_records.proofs.Listed.{listed_zero, listed_none, listed_some, listed_thing, listed_near}
@@ -287,11 +287,11 @@ module _ (b : List ℕ) (h : Head) (th : Things) (n : ℕ) (last : CellRecord) w
           cell_no_rights k f = cell_rights ∙ rw f
 
           pub cell_whole : (v : ℕ) → as_field8 (whole (rights_of h) (drop 4 b)) ≡ eight.Value v → (f : Front) →
-              Cell-at.Good f.kind row column (i * 48 + j) v f.next ≡ cell_of n th.ids f cell_read
+              cell_at.Good f.kind row column (i * 48 + j) v f.next ≡ cell_of n th.ids f cell_read
           unfolding place_in
           cell_whole v ev f = rw cell_rights (sym (go (whole (rights_of h) (drop 4 b)) ev))
             where
               go : (m : Read (List ℕ) ℕ ℕ) → as_field8 m ≡ eight.Value v →
-                  cell_of n th.ids f (bind m (λ v. done (cell_with row column v))) ≡ Cell-at.Good f.kind row column (i * 48 + j) v f.next
+                  cell_of n th.ids f (bind m (λ v. done (cell_with row column v))) ≡ cell_at.Good f.kind row column (i * 48 + j) v f.next
               go (got w t) ev = let z : w ≡ v = cc in rw (z, r.seat_is, q.seat_is)
               go (fault k) ev = constructors_differ (cc)

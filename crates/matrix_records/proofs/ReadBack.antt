@@ -30,7 +30,7 @@ use Rattle.matrix_records.specs.declared.answers.HeadAt.TheVariants as head_at
 use Rattle.matrix_records.specs.declared.answers.ThingAt.{ThingAt}
 use Rattle.matrix_records.specs.declared.answers.ThingAt.TheVariants as thing_at_lem
 use Rattle.matrix_records.specs.declared.answers.CellAt.{CellAt}
-use Rattle.matrix_records.specs.declared.answers.CellAt.TheVariants as Cell-at
+use Rattle.matrix_records.specs.declared.answers.CellAt.TheVariants as cell_at
 use Rattle.matrix_records.proofs.Listed.{listed_near}
 use Rattle.matrix_records.proofs.BodyLaws.{cell_with}
 
@@ -139,7 +139,7 @@ module _ (kind : ℕ) (m : Read ℕ Refusal ThingRecord) (r : ThingAt) (er : r �
 
 -- ---- a cell
 module _ (n : ℕ) (ids : List ℕ) (kind : ℕ) (m : Read ℕ Refusal CellRecord) (r : CellAt) (er : r ≡ as_cell_at n ids kind m) where
-  pub cell_read : (k row column place rights next : ℕ) → r ≡ Cell-at.Good k row column place rights next →
+  pub cell_read : (k row column place rights next : ℕ) → r ≡ cell_at.Good k row column place rights next →
       let c = cell_with row column rights in (m ≡ got c next) × (place ≡ place_in n ids c)
   cell_read k row column place rights next e = go m er
     where
@@ -153,7 +153,7 @@ module _ (n : ℕ) (ids : List ℕ) (kind : ℕ) (m : Read ℕ Refusal CellRecor
           (rw (x, y, v, z), rw (x, y, v) (cc))
       go (fault f) er = constructors_differ (cc)
 
-  pub cell_stopped : (k q v w : ℕ) → r ≡ Cell-at.Refused k q → v ≡ (of_cell r).number → w ≡ cell_place r → m ≡ fault (refusal v w)
+  pub cell_stopped : (k q v w : ℕ) → r ≡ cell_at.Refused k q → v ≡ (of_cell r).number → w ≡ cell_place r → m ≡ fault (refusal v w)
   cell_stopped k q v w e ev ew = go m er
     where
       go : (m : Read ℕ Refusal CellRecord) → r ≡ as_cell_at n ids kind m → m ≡ fault (refusal v w)

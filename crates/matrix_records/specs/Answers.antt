@@ -18,7 +18,7 @@ use Rattle.matrix_records.specs.declared.answers.HeadAt.TheVariants as head_at
 use Rattle.matrix_records.specs.declared.answers.ThingAt.{ThingAt}
 use Rattle.matrix_records.specs.declared.answers.ThingAt.TheVariants as thing_at_lem
 use Rattle.matrix_records.specs.declared.answers.CellAt.{CellAt}
-use Rattle.matrix_records.specs.declared.answers.CellAt.TheVariants as Cell-at
+use Rattle.matrix_records.specs.declared.answers.CellAt.TheVariants as cell_at
 
 -- the kind of the record that stands at a position
 abbrev pub kind_at : List ℕ → ℕ → ℕ
@@ -48,8 +48,8 @@ unfoldable pub place_in : ℕ → List ℕ → CellRecord → ℕ
 place_in n ids c = find (take n ids) c.row * 48 + find (take n ids) c.column
 
 abbrev pub as_cell_at : ℕ → List ℕ → ℕ → Read ℕ Refusal CellRecord → CellAt
-as_cell_at n ids kind (got c next) = Cell-at.Good kind c.row c.column (place_in n ids c) c.rights next
-as_cell_at n ids kind (fault f) = Cell-at.Refused f.number f.at
+as_cell_at n ids kind (got c next) = cell_at.Good kind c.row c.column (place_in n ids c) c.rights next
+as_cell_at n ids kind (fault f) = cell_at.Refused f.number f.at
 
 -- the functions: each record against a scheme's head, over the kinds that may stand there; a thing has an id up to the highest and stands behind one with the
 -- id `last`; a cell is one of the first n things' and stands behind a cell at a row and a column

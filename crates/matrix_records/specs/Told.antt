@@ -8,7 +8,7 @@ use Rattle.matrix_records.specs.declared.answers.HeadAt.TheVariants as head_at
 use Rattle.matrix_records.specs.declared.answers.ThingAt.{ThingAt}
 use Rattle.matrix_records.specs.declared.answers.ThingAt.TheVariants as thing_at_lem
 use Rattle.matrix_records.specs.declared.answers.CellAt.{CellAt}
-use Rattle.matrix_records.specs.declared.answers.CellAt.TheVariants as Cell-at
+use Rattle.matrix_records.specs.declared.answers.CellAt.TheVariants as cell_at
 
 -- a record's kind, what it says and the next position; or the number and the record's position
 abbrev pub of_head : HeadAt → Told
@@ -20,8 +20,8 @@ of_thing (thing_at_lem.Good kind id of next) = told 0 (kind ∷ id ∷ type_byte
 of_thing (thing_at_lem.Refused k at) = told k (at ∷ [])
 
 abbrev pub of_cell : CellAt → Told
-of_cell (Cell-at.Good kind row column place rights next) = told 0 (kind ∷ row ∷ column ∷ place ∷ rights ∷ next ∷ [])
-of_cell (Cell-at.Refused k at) = told k (at ∷ [])
+of_cell (cell_at.Good kind row column place rights next) = told 0 (kind ∷ row ∷ column ∷ place ∷ rights ∷ next ∷ [])
+of_cell (cell_at.Refused k at) = told k (at ∷ [])
 
 -- the position that comes with a refusal, 0 with success
 abbrev pub head_place : HeadAt → ℕ
@@ -33,5 +33,5 @@ thing_place (thing_at_lem.Good kind id of next) = 0
 thing_place (thing_at_lem.Refused k at) = at
 
 abbrev pub cell_place : CellAt → ℕ
-cell_place (Cell-at.Good kind row column place rights next) = 0
-cell_place (Cell-at.Refused k at) = at
+cell_place (cell_at.Good kind row column place rights next) = 0
+cell_place (cell_at.Refused k at) = at
