@@ -21,13 +21,13 @@ read_one : (c : In-Good) →
     let a = c.args in let l = c.loop-p in
     CellRead a.s.now a.h a.th a.n l.over l.by l.p c.in-Good.row c.in-Good.column c.in-Good.place c.in-Good.rights c.in-Good.next
 read_one c =
-    cell_read _ _ _ _ _ (c.read_cell-found.ensures ∙ cell_opened _ _ _ _ ((let it : T (accepted_head c.args.h) = c.requires.0 in it)) _ _ _) _ _ _ _ _ _ c.in-Good.is
+    cell_read _ _ _ _ _ (c.read_cell-found.ensures ∙ cell_opened _ _ _ _ (let it : T (accepted_head c.args.h) = c.requires.0 in it) _ _ _) _ _ _ _ _ _ c.in-Good.is
 
 ids-long : (c : Start) → length c.args.th.ids ≡ 48
 ids-long c = search rules
 
 near : (c : In-Good) → c.in-Good.place < 2304
-near c = let (e, ep) = read_one c in rw ep (cell_place_lem _ _ _ _ _ _ _ e ((let it : length c.args.th.ids ≡ 48 = search rules in it)))
+near c = let (e, ep) = read_one c in rw ep (cell_place_lem _ _ _ _ _ _ _ e (let it : length c.args.th.ids ≡ 48 = search rules in it))
 
 pub loop-p-init : goal.loop-p-init
 loop-p-init c = let p = c.requires in (p.2, far_none _ _ _ _ _ _ p.1)

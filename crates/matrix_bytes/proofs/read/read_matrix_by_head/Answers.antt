@@ -28,7 +28,7 @@ bytes c = λ i. (c.shared_slice_known-1.given i).fits
 -- once the head is read
 head-is : (c : In-Good) → let a = c.args in
     head_read a.s.now a.h ≡ got (record { count = c.in-Good.count; highest = c.in-Good.highest }) c.in-Good.next
-head-is c = head_read_lem _ _ _ (c.read_head-head.ensures ∙ head_opened _ _ _ _ (from_true ((let it : accepted_head c.args.h ≡ true = sym c.head_accepted.ensures ∙ not-false _ c.if-not-head_accepted.false-raw in it)))) _ _ _ _ c.in-Good.is
+head-is c = head_read_lem _ _ _ (c.read_head-head.ensures ∙ head_opened _ _ _ _ (from_true (let it : accepted_head c.args.h ≡ true = sym c.head_accepted.ensures ∙ not-false _ c.if-not-head_accepted.false-raw in it))) _ _ _ _ c.in-Good.is
 
 pub returns-then-cells-ne-CELLS : goal.returns-then-cells-ne-CELLS
 returns-then-cells-ne-CELLS c = matrix_room _ _ _ _ c.if-cells-ne-CELLS.true _ c.refused.ensures

@@ -24,8 +24,8 @@ value c = sym c.field2_at-found.ensures ∙ c.in-Value.is
 unknown : (c : After-seat_in-seat) → let a = c.args in
     min a.n 48 ≤ c.seat_in-seat.result → thing_id (listed a.n a.th) (drop a.i a.b.now) ≡ fault 5
 unknown c h =
-    id_unknown c.args.b.now c.args.i c.args.th c.args.n ((let it : length c.args.th.ids ≡ 48 = search rules in it)) _ _ ((let it : let a = c.args in
-    as_field2 (number 2 (drop a.i a.b.now)) ≡ Value c.in-Value.id = sym c.field2_at-found.ensures ∙ c.in-Value.is in it)) c.seat_in-seat.ensures h
+    id_unknown c.args.b.now c.args.i c.args.th c.args.n (let it : length c.args.th.ids ≡ 48 = search rules in it) _ _ (let it : let a = c.args in
+    as_field2 (number 2 (drop a.i a.b.now)) ≡ Value c.in-Value.id = sym c.field2_at-found.ensures ∙ c.in-Value.is in it) c.seat_in-seat.ensures h
 
 pub returns-in_default : goal.returns-in_default
 returns-in_default c =
