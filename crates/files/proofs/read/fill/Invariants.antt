@@ -1,3 +1,4 @@
+-- Each read fills more of the buffer, up to its end.
 use Rattle.std.proofs.Common.{length, ◌-◌, ◌≤◌}
 use Rattle.files.proofs.read.fill.Given as goal
 
