@@ -21,6 +21,8 @@ mod sum;
 mod texts;
 mod values;
 
+ghost use Rattle.std.specs.Prelude.{◌≡◌, length};
+
 use model::{Scheme, Things};
 use print::Line;
 use std::io::{Result, Stdin, Stdout};
@@ -97,10 +99,22 @@ fn run_all(
     Ok(())
 }
 
+fn no_cells() -> [u64; 2400]
+    ensures { 2400 ≡ length result }
+{
+    [0; 2400]
+}
+
+fn no_output() -> [u8; 65600]
+    ensures { 65600 ≡ length result }
+{
+    [0; 65600]
+}
+
 fn main(rt: HostRuntime) -> Result<()> {
     let mut case = [0u8; 65536];
-    let mut cells = [0u64; 2400];
-    let mut space = [0u8; 65600];
+    let mut cells = no_cells();
+    let mut space = no_output();
     run_all(
         &mut rt.stdin(),
         &rt.stdout(),
