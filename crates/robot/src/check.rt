@@ -18,8 +18,7 @@ pub(crate) fn scheme_of(scheme: &[u8]) -> SchemeAnswer
     scheme_bytes::read_scheme(scheme, scheme_bytes::no_scheme())
 }
 
-#[unsafe(no_mangle)]
-pub extern "C" fn slushferret_check_scheme(scheme: &[u8], report: &mut [usize]) -> u8
+pub fn slushferret_check_scheme(scheme: &[u8], report: &mut [usize]) -> u8
     ensures { ◌≡◌ {A = ℕ × List ℕ} (result, report.new) (gives report.old (check_scheme scheme.now)) }
 {
     let read = scheme_of(scheme);
@@ -43,8 +42,7 @@ fn check_of(h: Head, matrix: &[u8], report: &mut [usize]) -> u8
     tell(report, 0, 0, next, 0, 0)
 }
 
-#[unsafe(no_mangle)]
-pub extern "C" fn slushferret_check_matrix(scheme: &[u8], matrix: &[u8], report: &mut [usize]) -> u8
+pub fn slushferret_check_matrix(scheme: &[u8], matrix: &[u8], report: &mut [usize]) -> u8
     ensures { ◌≡◌ {A = ℕ × List ℕ} (result, report.new) (gives report.old (check_matrix scheme.now matrix.now)) }
 {
     let read = scheme_of(scheme);

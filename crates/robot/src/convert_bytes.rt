@@ -8,12 +8,7 @@ use crate::report::{tell, tell_writing};
 use model::{Scheme, Things};
 use records::Reading;
 
-#[unsafe(no_mangle)]
-pub extern "C" fn slushferret_convert_scheme(
-    scheme: &[u8],
-    out: &mut [u8],
-    report: &mut [usize],
-) -> u8
+pub fn slushferret_convert_scheme(scheme: &[u8], out: &mut [u8], report: &mut [usize]) -> u8
     ensures { ◌≡◌ {A = ℕ × List ℕ × List ℕ} (result, out.new, report.new) (gives_wrote report.old (convert_scheme_bytes scheme.now out.old)) }
 {
     let read = scheme_of(scheme);
@@ -42,8 +37,7 @@ fn convert_of(s: Scheme, matrix: &[u8], out: &mut [u8], report: &mut [usize]) ->
     tell_writing(report, 1, written)
 }
 
-#[unsafe(no_mangle)]
-pub extern "C" fn slushferret_convert_matrix(
+pub fn slushferret_convert_matrix(
     scheme: &[u8],
     matrix: &[u8],
     out: &mut [u8],

@@ -56,8 +56,7 @@ fn mark_bytes(
     mark_of(s, matrix, id, mark, out, report)
 }
 
-#[unsafe(no_mangle)]
-pub extern "C" fn slushferret_hold(
+pub fn slushferret_hold(
     scheme: &[u8],
     matrix: &[u8],
     id: u16,
@@ -69,8 +68,7 @@ pub extern "C" fn slushferret_hold(
     mark_bytes(scheme, matrix, id, true, out, report)
 }
 
-#[unsafe(no_mangle)]
-pub extern "C" fn slushferret_release(
+pub fn slushferret_release(
     scheme: &[u8],
     matrix: &[u8],
     id: u16,

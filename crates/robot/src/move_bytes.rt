@@ -6,13 +6,7 @@ use crate::check::scheme_of;
 use crate::report::{tell, tell_moving};
 use records::Reading;
 
-#[unsafe(no_mangle)]
-pub extern "C" fn slushferret_forward(
-    scheme: &[u8],
-    old: &[u8],
-    out: &mut [u8],
-    report: &mut [usize],
-) -> u8
+pub fn slushferret_forward(scheme: &[u8], old: &[u8], out: &mut [u8], report: &mut [usize]) -> u8
     ensures { ◌≡◌ {A = ℕ × List ℕ × List ℕ} (result, out.new, report.new) (gives_wrote report.old (forward_bytes scheme.now old.now out.old)) }
 {
     let read = scheme_of(scheme);
@@ -25,13 +19,7 @@ pub extern "C" fn slushferret_forward(
     tell_moving(report, moved)
 }
 
-#[unsafe(no_mangle)]
-pub extern "C" fn slushferret_back(
-    scheme: &[u8],
-    matrix: &[u8],
-    out: &mut [u8],
-    report: &mut [usize],
-) -> u8
+pub fn slushferret_back(scheme: &[u8], matrix: &[u8], out: &mut [u8], report: &mut [usize]) -> u8
     ensures { ◌≡◌ {A = ℕ × List ℕ × List ℕ} (result, out.new, report.new) (gives_wrote report.old (back_bytes scheme.now matrix.now out.old)) }
 {
     let read = scheme_of(scheme);

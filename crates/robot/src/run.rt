@@ -130,8 +130,7 @@ fn run_of(
     run_on(s, things, &mut cells, requests, answers, out, report)
 }
 
-#[unsafe(no_mangle)]
-pub extern "C" fn slushferret_run(
+pub fn slushferret_run(
     scheme: &[u8],
     matrix: &[u8],
     requests: &[u8],
@@ -150,8 +149,7 @@ pub extern "C" fn slushferret_run(
     run_of(s, matrix, requests, answers, out, report)
 }
 
-#[unsafe(no_mangle)]
-pub extern "C" fn slushferret_write_request(
+pub fn slushferret_write_request(
     command: u8,
     ids: &[u16],
     out: &mut [u8],

@@ -2,8 +2,7 @@
 ghost use Rattle.std.specs.Prelude.{◌≡◌};
 ghost use Rattle.robot.specs.Library.{version};
 
-#[unsafe(no_mangle)]
-pub extern "C" fn slushferret_version() -> u32
+pub fn slushferret_version() -> u32
     ensures { result ≡ version }
 {
     7
