@@ -5,14 +5,14 @@ from dataclasses import dataclass
 
 SPACE = re.compile(r"(?:\s|//[^\n]*)*")
 TOKEN = re.compile(
-    r"""(?P<unknown>/\*|b?r\#*")"""
+    r"""(?P<unknown>/\*|[bc]?r\#*")"""
     r"""|(?P<ghost_use>ghost\s+use\s+[^\s;{}]+(?:\{[^;{}]*\})?;)"""
-    r"""|(?P<clause>(?:requires|ensures|ghost)\b\s*(?:[a-z_]\w*\s*)?(?=\{))"""
-    r"""|(?P<text>b?"(?:\\.|[^"\\])*")|(?P<char>b?'(?:\\[^']+|[^'\\])')|(?P<lifetime>'[a-z_]\w*)"""
+    r"""|(?P<clause>(?:(?:requires|ensures)\b\s*(?:\*\s*)?(?:\w+\s*)?|ghost\b\s*(?:\w+\s*:\s*)?)(?=\{))"""
+    r"""|(?P<text>[bc]?"(?:\\.|[^"\\])*")|(?P<char>b?'(?:\\[^']+|[^'\\])')|(?P<lifetime>'[a-z_]\w*)"""
     r"""|(?P<word>[A-Za-z_]\w*)|(?P<number>[0-9]\w*)|(?P<sign>::|->|[^\w\s])""",
     re.ASCII | re.DOTALL,
 )
-IN_CLAUSE = re.compile(r"""--|\{-|"|«[^»]*»|[{}]""")
+IN_CLAUSE = re.compile(r"""--|\{-|"|⟦|«[^»]*»|[{}]""")
 CLOSING = {"(": ")", "[": "]", "{": "}"}
 
 
@@ -27,15 +27,19 @@ class Token:
     line: int
 
 
-# `asks` tells that a function has a `requires`, or binds a ghost value, which can ask as much
+# `asks` tells that a function has a `requires`, or binds a ghost value, which can ask as much; `exported`, that it is made for C. `head` is a function's text
+# from its name to its last clause, `body` what it does, each token by token.
 @dataclass
 class Item:
     kind: str
     name: str
     public: bool
     owner: str
-    asks: bool
     place: str
+    asks: bool = False
+    exported: bool = False
+    head: tuple = ()
+    body: tuple = ()
 
 
 # a clause's text is antt's; where it ends is sure only if nothing in it can hide a brace
@@ -56,7 +60,7 @@ def tokens_of(text, path):
     while at < len(text):
         line, counted = line + text.count("\n", counted, at), at
         found = TOKEN.match(text, at)
-        if not found or found.lastgroup == "unknown":
+        if not found or found.lastgroup == "unknown" or found[0] in ("requires", "ensures", "ghost"):
             raise Refused(f"{path}:{line}: text that isn't known here: {text[at : at + 12]!r}")
         kind, end = found.lastgroup, found.end()
         if kind == "clause":
@@ -94,8 +98,10 @@ class Reader:
             self.refuse(f"{self.next()!r} where a name is awaited")
         return self.take()
 
-    # one token, or all from an opening bracket to its closing one
+    # one token, or all from an opening bracket to its closing one; no `impl` may stand in what isn't read
     def skip(self):
+        if self.next() == "impl":
+            self.refuse("an `impl` inside of another item")
         closing = CLOSING.get(self.take())
         while closing and self.next() != closing:
             self.skip()
@@ -111,7 +117,14 @@ class Reader:
             self.skip_to(">")
             self.take(">")
 
+    # the tokens from one place to here, with one space for any in a clause
+    def since(self, start):
+        return tuple(" ".join(token.text.split()) for token in self.tokens[start : self.at])
+
     def items(self):
+        if self.next() == "#" and self.next(1) == "!":
+            for part in ("#", "!", "[", "tactic", "(", "auto", ")", "]"):
+                self.take(part)
         found = []
         while self.at < len(self.tokens):
             found += self.item("")
@@ -121,13 +134,13 @@ class Reader:
     def item(self, owner):
         place = self.place()
         if self.kind() == "ghost_use" and not owner:
-            self.at += 1
-            return []
-        if self.next() == "#":
-            for part in ("#", "[", "no_mangle", "]"):
-                self.take(part)
+            return [Item("ghost_use", self.take(), False, owner, place)]
+        attributes = set()
+        while self.next() == "#":
+            attributes.add(self.attribute())
         public = self.visibility()
-        if self.next() == "extern" and self.next(1) == '"C"':
+        exported = self.next() == "extern" and self.next(1) == '"C"'
+        if exported:
             self.at += 2
             if self.next() != "fn":
                 self.refuse("a function of C is declared: its contract would be assumed")
@@ -138,7 +151,24 @@ class Reader:
         if kind not in forms:
             self.at -= 1
             self.refuse(f"an item that isn't known here: {'pub ' if public else ''}{kind}")
-        return forms[kind](public, owner, place)
+        if exported != ("unsafe" in attributes) or "derive" in attributes and kind not in ("struct", "enum"):
+            self.refuse(f"the attributes {sorted(attributes)} don't belong to this {kind}")
+        found = forms[kind](public, owner, place)
+        if exported:
+            found[0].exported = True
+        return found
+
+    # what may stand before an item: an export, what every plain value is, and hints for the search of a proof
+    def attribute(self):
+        self.take("#")
+        self.take("[")
+        kind, start = self.take("unsafe", "derive", "tactic"), self.at
+        self.skip()
+        given = self.since(start)
+        if kind != "tactic" and given != {"unsafe": ("(", "no_mangle", ")"), "derive": ("(", "Clone", ",", "Copy", ")")}[kind]:
+            self.refuse(f"an attribute that isn't known here: {kind}{' '.join(given)}")
+        self.take("]")
+        return kind
 
     def visibility(self):
         if self.next() != "pub":
@@ -151,49 +181,61 @@ class Reader:
         return False
 
     def function(self, public, owner, place):
-        name, asks = self.word(), False
+        start, name, asks = self.at, self.word(), False
         while self.next() not in ("{", ";"):
-            asks = asks or bool({self.kind(), self.next()} & {"requires", "ghost"})
+            asks = asks or self.kind() in ("requires", "ghost")
             self.skip()
         if self.next() == ";":
             self.refuse(f"`{name}` has no body")
+        head, start = self.since(start), self.at
         self.skip()
-        return [Item("fn", name, public, owner, asks, place)]
+        return [Item("fn", name, public, owner, place, asks, head=head, body=self.since(start))]
 
     def constant(self, public, owner, place):
         name = self.word()
         self.take(":")
         self.skip_to(";")
         self.take(";")
-        return [Item("const", name, public, owner, False, place)]
+        return [Item("const", name, public, owner, place)]
 
     def module(self, public, owner, place):
         if public:
             self.refuse("a `pub mod`: hand its functions on by name, as `pub use module::name;`")
         name = self.word()
         self.take(";")
-        return [Item("mod", name, False, owner, False, place)]
+        return [Item("mod", name, False, owner, place)]
 
     # what is imported for the file itself may have any form
     def use(self, public, owner, place):
         if not public:
             self.skip_to(";")
             self.take(";")
-            return []
+            return [Item("use", "", False, owner, place)]
         module = self.word()
         self.take("::")
-        if self.kind() != "word" or self.next(1) != ";":
+        names = self.names() if self.next() == "{" else [self.word()]
+        if self.next() != ";":
             self.refuse("a `pub use` that isn't of the form `pub use module::name;`")
-        name = self.word()
         self.take(";")
-        return [Item("hand", name, True, module, False, place)]
+        return [Item("hand", name, True, module, place) for name in names]
+
+    # names between braces
+    def names(self):
+        self.take("{")
+        names = []
+        while self.next() != "}":
+            names.append(self.word())
+            if self.next() != "}":
+                self.take(",")
+        self.take("}")
+        return names
 
     def type(self, public, owner, place):
         name = self.word()
         self.lifetimes()
         self.skip_to("{", ";")
         self.skip()
-        return [Item("type", name, public, owner, False, place)]
+        return [Item("type", name, public, owner, place)]
 
     def implement(self, public, owner, place):
         self.lifetimes()
