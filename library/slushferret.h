@@ -1,6 +1,6 @@
 /* The robots' library, for C: schemes, matrices and lists of requests as bytes, in the outline's encoding.
  *
- * Link with the archive that `rt staticlib robot` writes, target/staticlib/librobot.a (x86-64 Linux). It needs nothing
+ * Link with the archive that tests/library/build writes, target/staticlib/librobot.a (x86-64 Linux). It needs nothing
  * but memcpy and memset, allocates nothing, and keeps nothing between two calls. Of the stack slushferret_run takes the
  * most, some 135 KB (measured, not proved).
  *

@@ -11,7 +11,7 @@ fn main() {
     let archive = folder.join("librobot.a");
     if !folder.is_absolute() || !archive.is_file() {
         eprintln!(
-            "SLUSHFERRET_LIBRARY must name the folder of librobot.a by its full path (that is target/staticlib after `rt staticlib robot`); it is \"{}\"",
+            "SLUSHFERRET_LIBRARY must name the folder of librobot.a by its full path (that is target/staticlib after tests/library/build); it is \"{}\"",
             folder.display()
         );
         exit(1);
