@@ -30,7 +30,7 @@ use Rattle.command_bytes.specs.Read.{head, Named, named, thing, test, code_of, b
 use Rattle.command_bytes.specs.Answers.{as_head_at}
 use Rattle.command_bytes.specs.Inner.Answers.{as_named, as_test, as_operation}
 use Rattle.command_bytes.specs.declared.answers.HeadAt.{HeadAt}
-use Rattle.command_bytes.specs.declared.answers.HeadAt.TheVariants as head_at
+use Rattle.command_bytes.specs.declared.answers.HeadAt.TheVariants as head_answer
 use Rattle.command_bytes.specs.declared.answers.NamedAnswer.{NamedAnswer}
 use Rattle.command_bytes.specs.declared.answers.NamedAnswer.TheVariants.{Good, Fault}
 use Rattle.command_bytes.specs.declared.answers.TestAnswer.TheVariants as test_answer
@@ -143,15 +143,15 @@ module _ (h : Head) (types : List ThingType) (b : List ℕ) (i : ℕ) where
 -- ---- the head, and its end
 module _ (b : List ℕ) (at next : ℕ) where
   abbrev refused : ℕ → HeadAt
-  refused k = head_at.Refused k at
+  refused k = head_answer.Refused k at
 
   abbrev ended : Read (List ℕ) ℕ Head → HeadAt
   ended r = as_head_at (on_body at next (bind r (λ h. end >> done h)))
 
-  end_line : (i : ℕ) (h : Head) → ended (got h (drop i b)) ≡ cond (ltb i (length b)) (refused 3) (head_at.Good h next)
+  end_line : (i : ℕ) (h : Head) → ended (got h (drop i b)) ≡ cond (ltb i (length b)) (refused 3) (head_answer.Good h next)
   end_line i h = by (dec_lt i (length b))
     where
-      by : Dec (i < length b) → ended (got h (drop i b)) ≡ cond (ltb i (length b)) (refused 3) (head_at.Good h next)
+      by : Dec (i < length b) → ended (got h (drop i b)) ≡ cond (ltb i (length b)) (refused 3) (head_answer.Good h next)
       by (yes l) = rw (one_off b i l, lt-ltb i (length b) l)
       by (no l) = rw (none_left b i (omega (arith, l)), le-ltb i (length b) (omega (arith, l)))
 
@@ -161,7 +161,7 @@ module _ (b : List ℕ) (at next : ℕ) where
       (λ m. on_field2 ended
       (λ s. cond (within m s)
       (on_field ended
-      (λ count. cond (ltb 5 (length b)) (refused 3) (head_at.Good (record { rights = n; types = m; subjects = record { 0 = s }; count = count }) next))
+      (λ count. cond (ltb 5 (length b)) (refused 3) (head_answer.Good (record { rights = n; types = m; subjects = record { 0 = s }; count = count }) next))
       (as_field (field 1 33 4 (drop 4 b))))
       (refused 6))
       (as_field2 (number 2 (drop 2 b))))

@@ -11,13 +11,13 @@ use Rattle.records.specs.Told.{Told, told}
 use Rattle.records.specs.declared.Reading.TheVariants.{Done, Refused}
 use Rattle.command_bytes.specs.Read.{head_at, command_at}
 use Rattle.command_bytes.specs.declared.answers.HeadAt.{HeadAt}
-use Rattle.command_bytes.specs.declared.answers.HeadAt.TheVariants as head_at
+use Rattle.command_bytes.specs.declared.answers.HeadAt.TheVariants as head_answer
 use Rattle.command_bytes.specs.declared.answers.CommandAnswer.{CommandAnswer}
 
 -- the content and the next position, or the number with the record's position
 abbrev pub as_head_at : Read ℕ Refusal Head → HeadAt
-as_head_at (got h next) = head_at.Good h next
-as_head_at (fault f) = head_at.Refused f.number f.at
+as_head_at (got h next) = head_answer.Good h next
+as_head_at (fault f) = head_answer.Refused f.number f.at
 
 abbrev pub as_command_at : Read ℕ Refusal Command → CommandAnswer
 as_command_at (got c next) = record { answer = Done next; command = c }
@@ -32,9 +32,9 @@ read_command bytes at h = as_command_at (against (accepted_head h) (command_at b
 
 -- the head's fields and the next position; or the number and the record's position
 abbrev pub of_head_at : HeadAt → Told
-of_head_at (head_at.Good h next) = told 0 (h.rights ∷ h.types ∷ h.subjects.0 ∷ h.count ∷ next ∷ [])
-of_head_at (head_at.Refused k at) = told k (at ∷ [])
+of_head_at (head_answer.Good h next) = told 0 (h.rights ∷ h.types ∷ h.subjects.0 ∷ h.count ∷ next ∷ [])
+of_head_at (head_answer.Refused k at) = told k (at ∷ [])
 
 abbrev pub head_place : HeadAt → ℕ
-head_place (head_at.Good h next) = 0
-head_place (head_at.Refused k at) = at
+head_place (head_answer.Good h next) = 0
+head_place (head_answer.Refused k at) = at

@@ -28,7 +28,7 @@ use Rattle.matrix_records.specs.Told.{of_head, of_thing, of_cell, head_place, th
 use Rattle.matrix_records.specs.declared.answers.HeadAt.{HeadAt}
 use Rattle.matrix_records.specs.declared.answers.HeadAt.TheVariants as head_at
 use Rattle.matrix_records.specs.declared.answers.ThingAt.{ThingAt}
-use Rattle.matrix_records.specs.declared.answers.ThingAt.TheVariants as thing_at_lem
+use Rattle.matrix_records.specs.declared.answers.ThingAt.TheVariants as thing_at
 use Rattle.matrix_records.specs.declared.answers.CellAt.{CellAt}
 use Rattle.matrix_records.specs.declared.answers.CellAt.TheVariants as cell_at
 use Rattle.matrix_records.proofs.Listed.{listed_near}
@@ -111,23 +111,23 @@ module _ (s : List ℕ) (at kinds : ℕ) (h : Head) (highest last : ℕ) where
       let (kind, start, len, f, r, next) = in_record_back s kinds (thing h highest last) at e in
       rw (← f.its_kind) (thing_marked h highest last kind (part s start len) t [] r)
 
-  pub thing_read : (r : ThingAt) → r ≡ as_thing_at (kind_at s at) read_as → (k id : ℕ) (of : ThingType) (next : ℕ) → r ≡ thing_at_lem.Good k id of next →
+  pub thing_read : (r : ThingAt) → r ≡ as_thing_at (kind_at s at) read_as → (k id : ℕ) (of : ThingType) (next : ℕ) → r ≡ thing_at.Good k id of next →
       read_as ≡ got (thing_with_mark id of (eqb k 8)) next
   thing_read r er k id of next e = go read_as refl
     where
       go : (m : Read ℕ Refusal ThingRecord) → read_as ≡ m → m ≡ got (thing_with_mark id of (eqb k 8)) next
       go (got t j) em =
-          let same : r ≡ thing_at_lem.Good (kind_at s at) t.id t.thing.type j = rw em at er in
+          let same : r ≡ thing_at.Good (kind_at s at) t.id t.thing.type j = rw em at er in
           let x : id ≡ t.id = cc in
           let y : of ≡ t.thing.type = cc in
           let z : next ≡ j = cc in
           let w : k ≡ kind_at s at = cc in
           let v : t.thing.on_hold ≡ eqb (kind_at s at) 8 = unfold MarkedBy in kind_marks em in
           rw (x, y, z, w, ← v)
-      go (fault f) em = let same : r ≡ thing_at_lem.Refused f.number f.at = rw em at er in constructors_differ (cc)
+      go (fault f) em = let same : r ≡ thing_at.Refused f.number f.at = rw em at er in constructors_differ (cc)
 
 module _ (kind : ℕ) (m : Read ℕ Refusal ThingRecord) (r : ThingAt) (er : r ≡ as_thing_at kind m) where
-  pub thing_stopped : (k q v w : ℕ) → r ≡ thing_at_lem.Refused k q → v ≡ (of_thing r).number → w ≡ thing_place r → m ≡ fault (refusal v w)
+  pub thing_stopped : (k q v w : ℕ) → r ≡ thing_at.Refused k q → v ≡ (of_thing r).number → w ≡ thing_place r → m ≡ fault (refusal v w)
   thing_stopped k q v w e ev ew = go m er
     where
       go : (m : Read ℕ Refusal ThingRecord) → r ≡ as_thing_at kind m → m ≡ fault (refusal v w)

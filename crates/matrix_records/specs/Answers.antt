@@ -16,7 +16,7 @@ use Rattle.matrix_records.specs.Read.{head, thing, cell}
 use Rattle.matrix_records.specs.declared.answers.HeadAt.{HeadAt}
 use Rattle.matrix_records.specs.declared.answers.HeadAt.TheVariants as head_at
 use Rattle.matrix_records.specs.declared.answers.ThingAt.{ThingAt}
-use Rattle.matrix_records.specs.declared.answers.ThingAt.TheVariants as thing_at_lem
+use Rattle.matrix_records.specs.declared.answers.ThingAt.TheVariants as thing_at
 use Rattle.matrix_records.specs.declared.answers.CellAt.{CellAt}
 use Rattle.matrix_records.specs.declared.answers.CellAt.TheVariants as cell_at
 
@@ -36,8 +36,8 @@ as_head_at kind (got st next) = head_at.Good kind st.count st.highest next
 as_head_at kind (fault f) = head_at.Refused f.number f.at
 
 abbrev pub as_thing_at : ℕ → Read ℕ Refusal ThingRecord → ThingAt
-as_thing_at kind (got t next) = thing_at_lem.Good kind t.id t.thing.type next
-as_thing_at kind (fault f) = thing_at_lem.Refused f.number f.at
+as_thing_at kind (got t next) = thing_at.Good kind t.id t.thing.type next
+as_thing_at kind (fault f) = thing_at.Refused f.number f.at
 
 -- a cell at a row and a column, as the one before
 abbrev pub last_of : ℕ → ℕ → CellRecord

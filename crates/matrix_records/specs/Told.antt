@@ -6,7 +6,7 @@ use Rattle.records.specs.Told.{Told, told}
 use Rattle.matrix_records.specs.declared.answers.HeadAt.{HeadAt}
 use Rattle.matrix_records.specs.declared.answers.HeadAt.TheVariants as head_at
 use Rattle.matrix_records.specs.declared.answers.ThingAt.{ThingAt}
-use Rattle.matrix_records.specs.declared.answers.ThingAt.TheVariants as thing_at_lem
+use Rattle.matrix_records.specs.declared.answers.ThingAt.TheVariants as thing_at
 use Rattle.matrix_records.specs.declared.answers.CellAt.{CellAt}
 use Rattle.matrix_records.specs.declared.answers.CellAt.TheVariants as cell_at
 
@@ -16,8 +16,8 @@ of_head (head_at.Good kind count highest next) = told 0 (kind ∷ count ∷ high
 of_head (head_at.Refused k at) = told k (at ∷ [])
 
 abbrev pub of_thing : ThingAt → Told
-of_thing (thing_at_lem.Good kind id of next) = told 0 (kind ∷ id ∷ type_byte of ∷ next ∷ [])
-of_thing (thing_at_lem.Refused k at) = told k (at ∷ [])
+of_thing (thing_at.Good kind id of next) = told 0 (kind ∷ id ∷ type_byte of ∷ next ∷ [])
+of_thing (thing_at.Refused k at) = told k (at ∷ [])
 
 abbrev pub of_cell : CellAt → Told
 of_cell (cell_at.Good kind row column place rights next) = told 0 (kind ∷ row ∷ column ∷ place ∷ rights ∷ next ∷ [])
@@ -29,8 +29,8 @@ head_place (head_at.Good kind count highest next) = 0
 head_place (head_at.Refused k at) = at
 
 abbrev pub thing_place : ThingAt → ℕ
-thing_place (thing_at_lem.Good kind id of next) = 0
-thing_place (thing_at_lem.Refused k at) = at
+thing_place (thing_at.Good kind id of next) = 0
+thing_place (thing_at.Refused k at) = at
 
 abbrev pub cell_place : CellAt → ℕ
 cell_place (cell_at.Good kind row column place rights next) = 0

@@ -27,7 +27,7 @@ use Rattle.records.proofs.TripRecord.{in_record_back}
 use Rattle.command_bytes.specs.Read.{head, head_at, command_at}
 use Rattle.command_bytes.specs.Answers.{as_head_at, read_head, as_command_at, read_command, of_head_at, head_place}
 use Rattle.command_bytes.specs.declared.answers.HeadAt.{HeadAt}
-use Rattle.command_bytes.specs.declared.answers.HeadAt.TheVariants as head_at
+use Rattle.command_bytes.specs.declared.answers.HeadAt.TheVariants as head_answer
 use Rattle.command_bytes.specs.declared.answers.CommandAnswer.{CommandAnswer}
 use Rattle.command_bytes.proofs.Trips.{fits_head}
 use Rattle.scheme_bytes.specs.Read.{commands, at_end, scheme, scheme_rest}
@@ -39,7 +39,7 @@ use Rattle.scheme_bytes.specs.declared.answers.CommandsAnswer.{CommandsAnswer}
 pub reading_tells : {a : Reading} {k p n q : ℕ} → a ≡ reading.Refused k p → n ≡ (of_reading a).number → q ≡ reading_place a → a ≡ reading.Refused n q
 reading_tells {a} {k} {p} {n} {q} f g h = let x : n ≡ k = rw f at g in let y : q ≡ p = rw f at h in rw (x, y) f
 
-pub head_tells : {a : HeadAt} {k p n q : ℕ} → a ≡ head_at.Refused k p → n ≡ (of_head_at a).number → q ≡ head_place a → a ≡ head_at.Refused n q
+pub head_tells : {a : HeadAt} {k p n q : ℕ} → a ≡ head_answer.Refused k p → n ≡ (of_head_at a).number → q ≡ head_place a → a ≡ head_answer.Refused n q
 head_tells {a} {k} {p} {n} {q} f g h = let x : n ≡ k = rw f at g in let y : q ≡ p = rw f at h in rw (x, y) f
 
 -- ---- from an answer back to the reading
@@ -88,35 +88,35 @@ unfolding at_end
 end_there s at e = rw (eq-eqb at (length s) e)
 
 module _ (s : List ℕ) (table : Scheme) where
-  pub head_refused : (k q : ℕ) → as_scheme table (fault (record { number = k; at = q })) ≡ read_rest s (head_at.Refused k q) table
+  pub head_refused : (k q : ℕ) → as_scheme table (fault (record { number = k; at = q })) ≡ read_rest s (head_answer.Refused k q) table
   unfolding read_rest
   head_refused k q = refl
 
   module _ (h : Head) (from : ℕ) where
-    pub no_head : accepted_head h ≡ false → as_scheme table (fault (record { number = 27; at = 0 })) ≡ read_rest s (head_at.Good h from) table
+    pub no_head : accepted_head h ≡ false → as_scheme table (fault (record { number = 27; at = 0 })) ≡ read_rest s (head_answer.Good h from) table
     unfolding read_rest
     no_head e = rw e
 
     all_there : accepted_head h ≡ true → {cs : List Command} {next : ℕ} → commands s h from ≡ got cs next → next ≡ length s →
         record { answer = reading.Done next; scheme = record { head = h; commands = cs ++ replicate (32 - length cs) no_command } } ≡
-        read_rest s (head_at.Good h from) table
+        read_rest s (head_answer.Good h from) table
     unfolding read_rest scheme_rest scheme_of
     all_there ok {cs} {next} d e = rw (ok, d, end_there s next e)
 
     module _ (ok : accepted_head h ≡ true) {r : CommandsAnswer} (er : r ≡ as_commands (commands s h from)) where
       pub bad_commands : (k q : ℕ) → r.answer ≡ reading.Refused k q →
-          as_scheme table (fault (record { number = k; at = q })) ≡ read_rest s (head_at.Good h from) table
+          as_scheme table (fault (record { number = k; at = q })) ≡ read_rest s (head_answer.Good h from) table
       unfolding read_rest scheme_rest
       bad_commands k q f = rw (ok, all_refused (commands s h from) er f)
 
       module _ (next : ℕ) (f : r.answer ≡ reading.Done next) where
         pub bytes_behind : (next ≡ length s → ⊥) →
-            as_scheme table (fault (record { number = 8; at = next })) ≡ read_rest s (head_at.Good h from) table
+            as_scheme table (fault (record { number = 8; at = next })) ≡ read_rest s (head_answer.Good h from) table
         unfolding read_rest scheme_rest
         bytes_behind n = rw (ok, (all_done (commands s h from) er f).1, end_before s next n)
 
         pub no_bytes_behind : next ≡ length s →
-            record { answer = reading.Done next; scheme = record { head = h; commands = r.commands } } ≡ read_rest s (head_at.Good h from) table
+            record { answer = reading.Done next; scheme = record { head = h; commands = r.commands } } ≡ read_rest s (head_answer.Good h from) table
         no_bytes_behind e =
             let (cs, d, z) = all_done (commands s h from) er f in
             ap (λ (x : List Command). record { answer = reading.Done next; scheme = record { head = h; commands = x } }) z ∙ all_there ok d e

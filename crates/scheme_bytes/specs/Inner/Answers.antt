@@ -10,7 +10,7 @@ use Rattle.records.specs.Reading.{Read, got, fault, bind}
 use Rattle.records.specs.Front.{Refusal, against}
 use Rattle.records.specs.declared.Reading.TheVariants.{Done, Refused}
 use Rattle.command_bytes.specs.declared.answers.HeadAt.{HeadAt}
-use Rattle.command_bytes.specs.declared.answers.HeadAt.TheVariants as head_at
+use Rattle.command_bytes.specs.declared.answers.HeadAt.TheVariants as head_answer
 use Rattle.scheme_bytes.specs.Read.{scheme_rest}
 use Rattle.scheme_bytes.specs.Answers.{as_scheme}
 use Rattle.scheme_bytes.specs.declared.answers.CommandsAnswer.{CommandsAnswer}
@@ -23,8 +23,8 @@ as_commands (fault f) = record { answer = Refused f.number f.at; commands = repl
 
 -- the way back from a head's answer; 27 for a head that no reading gives, so that the rest is said of every head
 abbrev pub head_found : HeadAt → Read ℕ Refusal Head
-head_found (head_at.Good h next) = against (accepted_head h) (got h next)
-head_found (head_at.Refused k q) = fault (record { number = k; at = q })
+head_found (head_answer.Good h next) = against (accepted_head h) (got h next)
+head_found (head_answer.Refused k q) = fault (record { number = k; at = q })
 
 unfoldable pub read_rest : List ℕ → HeadAt → Scheme → SchemeAnswer
 read_rest bytes found table = as_scheme table (bind (head_found found) (scheme_rest bytes))
