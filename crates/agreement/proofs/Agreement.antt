@@ -1,14 +1,14 @@
 -- Demand 3 of the functions. A conversion that was done tells that all was accepted; what the robot then reads stands for the converted matrix; and
 -- a run in memory is a run on paper, of which `Demand3` speaks.
 -- Assumes nothing.
-use Prim.Native.Nat.{ℕ, ◌*◌, ◌≤◌}
+use Prim.Native.Nat.{ℕ, ◌*◌, ◌≤◌, ◌<◌}
 use mathlib.Core.Path.{◌≡◌, refl, sym, ap, ◌∙◌}
 use mathlib.Core.Bool.{Bool, true, false, cond, ◌&&◌}
 use mathlib.Core.Option.{none, some}
 use mathlib.Core.List.{List, [], ◌∷◌, ◌++◌}
 use lib.Dec.{T, le→leb}
 use lib.Seq.{take-length}
-use lib.ListN.{length, take, drop}
+use lib.ListN.{length, take, drop, get_or}
 use Rattle.laws.specs.Check.{Fault, passes}
 use Rattle.model.specs.Request.{Request, answer, after, step, run, answers}
 use Rattle.model.specs.Answers.{steps_to, reply_of, reply_to, reply_each, reply_width, replies_in}
@@ -177,6 +177,18 @@ module _ (s : Scheme) (m : Matrix) (ok : T (accepted_scheme s)) (of : T (accepte
           let is : take (length ps) ps ≡ ps = take-length ps in
           rw is at ((list new poor robot pair bytes out small fits).after_each (length ps) out' out' (rw is fits') (rw is fits'))
 
+    -- what the poorer robot obeyed, the office does, and so does the poorer robot itself
+    pub incomplete : (poor : Matrix) (out' : List ℕ) → T (accepted_matrix new.head poor) → Within (stands_for poor) (stands_for robot) →
+        ((i : ℕ) → get_or bytes i 0 < 256) → reply_width * length (asked bytes) ≤ length out →
+        let ps = obeyed_by (asked bytes) (run_on new poor bytes out).replies in
+        reply_width * length ps ≤ length out' →
+        CarriedOut s ps (run_on s m (list_bytes ps) out')
+        × CarriedOut new ps (run_on new poor (list_bytes ps) out')
+        × Within (left_by (run_on new poor (list_bytes ps) out')) (left_by (run_on new robot (list_bytes ps) out'))
+    incomplete poor out' p w small fits fits' =
+        let both = both_do poor p w small fits out' fits' in
+        (office_does_lem poor p w small fits out' fits', both.poorer_did, unfold left_by in both.left.within)
+
 -- ---- what two conversions that were done tell
 pub record Converted (s : Scheme) (m : Matrix) (robot_scheme robot_matrix : List ℕ) : Type 0 where
   pub ok : T (accepted_scheme s)
@@ -193,14 +205,14 @@ pub converted : (s : Scheme) (m : Matrix) (out out' left left' : List ℕ) (writ
     Converted s m (take written left) (take written' left')
 unfolding convert_scheme_into convert_matrix_into matrix_fault convertible write_scheme write_matrix
 converted s m out out' left left' written written' e e' =
-    let (None-first, size) = written_by_lem out _ (scheme_fault s) written left e in
+    let (none_first, size) = written_by_lem out _ (scheme_fault s) written left e in
     let (none_then, size') = written_by_lem out' _ (matrix_fault s m) written' left' e' in
     let (both, can) = no_fault (accepted_scheme s && accepted_matrix s.head m) (conversion_fault s) none_then in
     let ok : T (accepted_scheme s) = and_left (accepted_scheme s) _ both in
     let of : T (accepted_matrix s.head m) = and_right (accepted_scheme s) _ both in
     let a = is_true (accepted_scheme (convert_scheme s)) (new_ok s m ok of can) in
     let b = is_true (accepted_matrix (convert_scheme s).head (convert_matrix s.head m)) (full_ok s m ok of can) in
-    let scheme = scheme_trips.written out (convert_scheme s) written left (rw a (rw None-first at e)) in
+    let scheme = scheme_trips.written out (convert_scheme s) written left (rw a (rw none_first at e)) in
     let matrix = matrix_trips.written out' (convert_scheme s) (convert_matrix s.head m) written' left' (rw (a, b) (rw none_then at e')) in
     record {
       ok = ok;
@@ -221,7 +233,5 @@ functions_agree s m out out' left left' written written' e e' =
       same_answers = same_answers_lem s m c.ok c.of c.can;
       robot_steps = λ bytes out whole. robot_steps_lem s m c.ok c.of c.can bytes out (list_room s m c.ok c.of bytes out whole);
       mirrored = mirrored s m c.ok c.of c.can;
-      incomplete = λ poor bytes out out' p w small fits fits'.
-          let both = both_do s m c.ok c.of c.can bytes out poor p w small fits out' fits' in
-          (office_does_lem s m c.ok c.of c.can bytes out poor p w small fits out' fits', both.poorer_did, unfold left_by in both.left.within);
+      incomplete = λ poor bytes out out'. incomplete s m c.ok c.of c.can bytes out poor out';
     }

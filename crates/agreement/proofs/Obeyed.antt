@@ -1,6 +1,6 @@
--- The replies that a run stores tell which requests were carried out before the first refusal; and the first requests of a list, where they are carried out,
--- are so by themselves, with the replies that stand in front. And what two schemes' replies to the same answers have in common: all but the steps.
--- Assumes nothing.
+-- The replies that a run stores tell which requests were carried out before the first refusal; those are requests that can be written, and each of them is
+-- carried out again when just they are run. The first requests of a list, where they are carried out, are so by themselves, with the replies that stand in
+-- front. And what two schemes' replies to the same answers have in common: all but the steps. Assumes nothing.
 use Prim.Native.Nat.{ℕ, suc, ◌*◌, ◌≤◌}
 use native.Mathlib.Omega.{arith}
 use mathlib.Core.Path.{◌≡◌, refl, ap}
@@ -47,13 +47,38 @@ unfolding answers obeyed
 told s m [] rest = unfold obeyed_by in refl
 told s m (q ∷ qs) rest = told_one s m q qs rest (step papers s m q) (request_numbers State papers s m q) (λ next. told s next qs rest)
 
+-- ---- they are among the list's
+pub obeyed_each : (P : Request → Type 0) (s : Scheme) (m : State) (qs : List Request) → Each P qs → Each P (obeyed s m qs)
+unfolding obeyed
+obeyed_each P s m [] each = tt
+obeyed_each P s m (q ∷ qs) (p, each) = by (step papers s m q) (λ next. obeyed_each P s next qs each)
+  where
+    by : (o : Outcome State) → ((next : State) → Each P (obeyed s next qs)) → Each P (on_if o q (λ next. obeyed s next qs))
+    by (done next) law = unfold on_if in (p, law next)
+    by (refused r) law = unfold on_if in tt
+
+-- ---- and each is carried out when just they are run
+abbrev pub AllDone : Scheme → State → List Request → Type 0
+AllDone s m ps = answers papers s m ps ≡ map (λ q. none) ps
+
+pub obeyed_done : (s : Scheme) (m : State) (qs : List Request) → AllDone s m (obeyed s m qs)
+unfolding obeyed answers
+obeyed_done s m [] = refl
+obeyed_done s m (q ∷ qs) = by (step papers s m q) refl (λ next. obeyed_done s next qs)
+  where
+    by : (o : Outcome State) → step papers s m q ≡ o → ((next : State) → AllDone s next (obeyed s next qs)) → AllDone s m (on_if o q (λ next. obeyed s next qs))
+    by (done next) e law = unfold on_if in rw e (unfold answer in unfold after in ap (λ (list : List Answer). none ∷ list) (law next))
+    by (refused r) e law = unfold on_if in refl
+
+pub replies_none : (s : Scheme) (qs : List Request) → replies s qs (map (λ q. none) qs) ≡ each_bytes (λ (q : Request). reply_bytes (reply_to s q none)) qs
+unfolding reply_each
+replies_none s [] = refl
+replies_none s (q ∷ qs) = ap (λ (bs : List ℕ). reply_bytes (reply_to s q none) ++ bs) (replies_none s qs)
+
 -- ---- the first requests of a list: what holds of each of a list holds of its first; and those that are carried out are so without the others
 pub each_first : (P : Request → Type 0) (ps rest : List Request) → Each P (ps ++ rest) → Each P ps
 each_first P [] rest each = tt
 each_first P (q ∷ ps) rest (p, each) = (p, each_first P ps rest each)
-
-abbrev pub AllDone : Scheme → State → List Request → Type 0
-AllDone s m ps = answers papers s m ps ≡ map (λ q. none) ps
 
 pub done_first : (s : Scheme) (m : State) (ps rest : List Request) → AllDone s m (ps ++ rest) → AllDone s m ps
 unfolding answers
