@@ -1,0 +1,2 @@
+-- The laws of faults and their numbers.
+pub mod NumberLaws
