@@ -28,9 +28,9 @@ use Rattle.conversion.proofs.Converted.{converts}
 use Rattle.conversion.proofs.Demand3.{demand3}
 use Rattle.conversion.proofs.Robot.{still_mirrors}
 use Rattle.conversion.proofs.RobotSteps.{robot_steps_lem as robot_steps_twice}
-use Rattle.records.specs.declared.Reading.TheVariants as reading
-use Rattle.records.specs.declared.Writing.{Writing}
-use Rattle.records.specs.declared.Writing.TheVariants as writing
+use Rattle.records.specs.Outcome.Reading as reading
+use Rattle.records.specs.Outcome.Writing.{Writing}
+use Rattle.records.specs.Outcome.Writing as writing
 use Rattle.records.proofs.Wrote.{pair_eq, wrote, wrote_first}
 use Rattle.scheme_bytes.specs.Answers.{read_scheme}
 use Rattle.scheme_bytes.specs.Write.{write_scheme}

@@ -22,7 +22,7 @@ use Rattle.model.specs.declared.Things.{Things}
 use Rattle.model.proofs.HeldLaws.{held}
 use Rattle.model.proofs.Find.{is_known}
 use Rattle.records.specs.Writing.{placed, write_bytes}
-use Rattle.records.specs.declared.Writing.TheVariants.{Done, Refused}
+use Rattle.records.specs.Outcome.Writing.{Done, Refused}
 use Rattle.records.proofs.PlacedLaws.{take_through_placed}
 use Rattle.records.proofs.Wrote.{wrote as was_written, wrote_first}
 use Rattle.matrix_bytes.specs.Content.{reseated}

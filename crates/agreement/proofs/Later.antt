@@ -21,7 +21,7 @@ use Rattle.model.proofs.Find.{find_lt, known_nonzero, seat_is, is_known}
 use Rattle.model.proofs.NeverAgain.{run_append}
 use Rattle.records.specs.Front.{Refusal}
 use Rattle.records.specs.Reading.{Read, got, fault}
-use Rattle.records.specs.declared.Reading.TheVariants.{Done, Refused}
+use Rattle.records.specs.Outcome.Reading.{Done, Refused}
 use Rattle.scheme_bytes.specs.Answers.{as_scheme, read_scheme}
 use Rattle.scheme_bytes.specs.Read.{scheme as reads_scheme}
 use Rattle.scheme_bytes.specs.declared.answers.SchemeAnswer.{SchemeAnswer}

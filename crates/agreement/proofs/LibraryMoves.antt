@@ -20,10 +20,10 @@ use Rattle.records.specs.Front.{Refusal, against}
 use Rattle.records.specs.Reading.{Read, got, fault}
 use Rattle.records.specs.Told.{of_writing}
 use Rattle.records.specs.Writing.{placed, write_bytes}
-use Rattle.records.specs.declared.Reading.{Reading}
-use Rattle.records.specs.declared.Reading.TheVariants as reading
-use Rattle.records.specs.declared.Writing.{Writing}
-use Rattle.records.specs.declared.Writing.TheVariants as writing
+use Rattle.records.specs.Outcome.Reading.{Reading}
+use Rattle.records.specs.Outcome.Reading as reading
+use Rattle.records.specs.Outcome.Writing.{Writing}
+use Rattle.records.specs.Outcome.Writing as writing
 use Rattle.records.proofs.Faults.{fine}
 use Rattle.records.proofs.PlacedLaws.{take_through_placed}
 use Rattle.scheme_bytes.specs.Answers.{read_scheme}

@@ -17,8 +17,8 @@ use Rattle.model.specs.Seats.{Matrix, no_things, seats, stands_for}
 use Rattle.model.specs.Accepted.{accepted_scheme, accepted_matrix}
 use Rattle.model.specs.declared.Scheme.{Scheme}
 use Rattle.records.specs.Writing.{placed}
-use Rattle.records.specs.declared.Reading.{Reading}
-use Rattle.records.specs.declared.Reading.TheVariants as reading
+use Rattle.records.specs.Outcome.Reading.{Reading}
+use Rattle.records.specs.Outcome.Reading as reading
 use Rattle.records.proofs.PlacedLaws.{take_through_placed}
 use Rattle.matrix_bytes.specs.Answers.{read_matrix}
 use Rattle.matrix_bytes.specs.Content.{reseated}

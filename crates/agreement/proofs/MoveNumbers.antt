@@ -11,8 +11,8 @@ use Rattle.records.specs.Reading.{Read, got, fault, check, field}
 use Rattle.records.specs.Front.{Refusal, against, in_record}
 use Rattle.records.specs.Told.{of_writing}
 use Rattle.records.specs.Writing.{write_bytes}
-use Rattle.records.specs.declared.Writing.{Writing}
-use Rattle.records.specs.declared.Writing.TheVariants as writing
+use Rattle.records.specs.Outcome.Writing.{Writing}
+use Rattle.records.specs.Outcome.Writing as writing
 use Rattle.records.proofs.Faults.{fine, Only, only_then, only_next, only_check, only_field, only_record}
 use Rattle.matrix_bytes.specs.Read.{matrix}
 use Rattle.moving.specs.Old.{old_head, old_content, highest_listed, old_matrix}

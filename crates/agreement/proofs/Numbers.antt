@@ -18,8 +18,8 @@ use Rattle.model.specs.declared.Scheme.{Scheme}
 use Rattle.records.specs.Bytes.{number2, record_bytes}
 use Rattle.records.specs.Front.{against, record_at, in_record}
 use Rattle.records.specs.Writing.{write_record}
-use Rattle.records.specs.declared.Reading.{Reading}
-use Rattle.records.specs.declared.Reading.TheVariants as reading
+use Rattle.records.specs.Outcome.Reading.{Reading}
+use Rattle.records.specs.Outcome.Reading as reading
 use Rattle.records.proofs.Faults.{only_front}
 use Rattle.command_bytes.specs.Read.{head_at, command_at}
 use Rattle.command_bytes.specs.Answers.{read_head, read_command}

@@ -22,7 +22,7 @@ use Rattle.model.proofs.Joined.{run_joined, run_kept}
 use Rattle.conversion.specs.Demand3.{obeyed}
 use Rattle.records.specs.Bytes.{each_bytes}
 use Rattle.records.specs.Writing.{placed}
-use Rattle.records.specs.declared.Reading.TheVariants as reading
+use Rattle.records.specs.Outcome.Reading as reading
 use Rattle.request_list.specs.List.{Listed, read_list, list_bytes}
 use Rattle.request_list.specs.Write.{Writable}
 use Rattle.request_list.proofs.ListTrips.{list_trips}

@@ -5,7 +5,7 @@ use native.Mathlib.Omega.{arith}
 use mathlib.Core.Path.{◌≡◌, refl, sym, ap, ◌∙◌}
 use mathlib.Core.List.{List, [], ◌∷◌}
 use lib.ListN.{get_or, replicate}
-use Rattle.records.specs.declared.Writing.{Writing}
+use Rattle.records.specs.Outcome.Writing.{Writing}
 use Rattle.model.specs.Request.{Request}
 use Rattle.model.specs.KeyExample.{key_scheme, key_matrix, ask}
 use Rattle.convert.specs.Convert.{converted_scheme}

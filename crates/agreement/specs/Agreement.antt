@@ -14,9 +14,9 @@ use Rattle.model.specs.declared.Things.{Things}
 use Rattle.conversion.specs.Conversion.{convert_scheme}
 use Rattle.conversion.specs.Demand3.{Mirrors, Within}
 use Rattle.records.specs.Bytes.{each_bytes}
-use Rattle.records.specs.declared.Reading.TheVariants as reading
-use Rattle.records.specs.declared.Writing.{Writing}
-use Rattle.records.specs.declared.Writing.TheVariants as writing
+use Rattle.records.specs.Outcome.Reading as reading
+use Rattle.records.specs.Outcome.Writing.{Writing}
+use Rattle.records.specs.Outcome.Writing as writing
 use Rattle.scheme_bytes.specs.Answers.{read_scheme}
 use Rattle.matrix_bytes.specs.Answers.{read_matrix}
 use Rattle.matrix_bytes.specs.declared.answers.MatrixAnswer.{MatrixAnswer}

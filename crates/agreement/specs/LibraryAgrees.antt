@@ -10,7 +10,7 @@ use Rattle.model.specs.declared.Scheme.{Scheme}
 use Rattle.conversion.specs.Conversion.{convert_scheme}
 use Rattle.conversion.specs.Demand3.{Mirrors, Within}
 use Rattle.records.specs.Bytes.{each_bytes}
-use Rattle.records.specs.declared.Reading.TheVariants.{Done}
+use Rattle.records.specs.Outcome.Reading.{Done}
 use Rattle.scheme_bytes.specs.Answers.{read_scheme}
 use Rattle.matrix_bytes.specs.Answers.{read_matrix}
 use Rattle.matrix_bytes.specs.declared.answers.MatrixAnswer.{MatrixAnswer}

@@ -8,8 +8,8 @@ use Rattle.model.specs.Seats.{Matrix, seats, stands_for, known}
 use Rattle.model.specs.KeyExample.{key_scheme, key_matrix, ask, says, stops_at, is, same_numbers, cell_is, is_true, starred, Claim as Asked}
 use Rattle.model.specs.declared.Scheme.{Scheme}
 use Rattle.records.specs.Bytes.{each_bytes}
-use Rattle.records.specs.declared.Writing.{Writing}
-use Rattle.records.specs.declared.Writing.TheVariants as writing
+use Rattle.records.specs.Outcome.Writing.{Writing}
+use Rattle.records.specs.Outcome.Writing as writing
 use Rattle.request_list.specs.List.{list_bytes}
 use Rattle.engine.specs.List.{Result, run_on}
 use Rattle.convert.specs.Convert.{converted_scheme, converted_cells, convert_scheme_into}

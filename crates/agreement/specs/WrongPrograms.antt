@@ -10,7 +10,7 @@ use Rattle.engine.specs.Step.{request_on}
 use Rattle.engine.specs.declared.answers.Stepped.{Stepped}
 use Rattle.scheme_bytes.specs.Write.{write_scheme}
 use Rattle.matrix_bytes.specs.Write.{write_matrix}
-use Rattle.records.specs.declared.Writing.{Writing}
+use Rattle.records.specs.Outcome.Writing.{Writing}
 use Rattle.convert.specs.Convert.{converted_scheme, converted_cells, convert_scheme_into, convert_matrix_into}
 use Rattle.convert.specs.declared.answers.Conversion.{Conversion}
 use Rattle.convert.specs.declared.answers.SchemeConversion.{SchemeConversion}

@@ -7,8 +7,8 @@ use Rattle.records.specs.declared.Field.{Field}
 use Rattle.records.specs.declared.Field.TheVariants as one
 use Rattle.records.specs.declared.Field2.{Field2}
 use Rattle.records.specs.declared.Field2.TheVariants as two
-use Rattle.records.specs.declared.RecordAnswer.{RecordAnswer}
-use Rattle.records.specs.declared.RecordAnswer.TheVariants as record_answer
+use Rattle.records.specs.Outcome.RecordAnswer.{RecordAnswer}
+use Rattle.records.specs.Outcome.RecordAnswer as record_answer
 use Rattle.command_bytes.specs.Inner.Answers.{of_named, of_test, of_operation, of_walk}
 use Rattle.command_bytes.specs.declared.answers.NamedAnswer.{NamedAnswer}
 use Rattle.command_bytes.specs.declared.answers.NamedAnswer.TheVariants as named

@@ -8,7 +8,7 @@ use Rattle.model.specs.declared.Head.{Head}
 use Rattle.records.specs.Reading.{Read, got, fault}
 use Rattle.records.specs.Front.{Refusal, against}
 use Rattle.records.specs.Told.{Told, told}
-use Rattle.records.specs.declared.Reading.TheVariants.{Done, Refused}
+use Rattle.records.specs.Outcome.Reading.{Done, Refused}
 use Rattle.command_bytes.specs.Read.{head_at, command_at}
 use Rattle.command_bytes.specs.declared.answers.HeadAt.{HeadAt}
 use Rattle.command_bytes.specs.declared.answers.HeadAt.TheVariants as head_answer

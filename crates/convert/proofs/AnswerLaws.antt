@@ -18,8 +18,8 @@ use Rattle.model.proofs.HeldLaws.{held}
 use Rattle.accepted.specs.Answers.{as_checked}
 use Rattle.accepted.specs.declared.checked.Checked.TheVariants as checked
 use Rattle.accepted.proofs.SchemeLaws.{told_fine, told_fault}
-use Rattle.records.specs.declared.Writing.{Writing}
-use Rattle.records.specs.declared.Writing.TheVariants as writing
+use Rattle.records.specs.Outcome.Writing.{Writing}
+use Rattle.records.specs.Outcome.Writing as writing
 use Rattle.scheme_bytes.specs.Write.{write_scheme}
 use Rattle.matrix_bytes.specs.Write.{write_matrix_by_head}
 use Rattle.matrix_bytes.proofs.RoundTrips.{head_passes}

@@ -9,8 +9,8 @@ use Rattle.model.specs.declared.Scheme.{Scheme}
 use Rattle.conversion.specs.Conversion.{conversion_fault, convert_scheme, convert_matrix}
 use Rattle.records.specs.Told.{Told, told}
 use Rattle.records.specs.Writing.{write_bytes}
-use Rattle.records.specs.declared.Writing.{Writing}
-use Rattle.records.specs.declared.Writing.TheVariants as writing
+use Rattle.records.specs.Outcome.Writing.{Writing}
+use Rattle.records.specs.Outcome.Writing as writing
 use Rattle.scheme_bytes.specs.Write.{scheme_bytes}
 use Rattle.matrix_bytes.specs.Write.{matrix_bytes}
 use Rattle.convert.specs.declared.answers.Conversion.{Conversion}

@@ -21,7 +21,7 @@ use Rattle.model.specs.declared.Scheme.{Scheme}
 use Rattle.model.proofs.Joined.{kept}
 use Rattle.model.proofs.ReplyLaws.{replies_back}
 use Rattle.records.specs.Bytes.{each_bytes}
-use Rattle.records.specs.declared.Reading.{Reading}
+use Rattle.records.specs.Outcome.Reading.{Reading}
 use Rattle.records.proofs.BytesLaws.{sets_append}
 use Rattle.records.proofs.PlacedLaws.{placed_sets}
 use Rattle.request_bytes.specs.Read.{ids_of, read_request}

@@ -9,8 +9,8 @@ use Rattle.model.specs.declared.Scheme.{Scheme}
 use Rattle.records.specs.Bytes.{each_bytes}
 use Rattle.records.specs.Told.{Told, told}
 use Rattle.records.specs.Writing.{placed}
-use Rattle.records.specs.declared.Reading.{Reading}
-use Rattle.records.specs.declared.Reading.TheVariants as reading
+use Rattle.records.specs.Outcome.Reading.{Reading}
+use Rattle.records.specs.Outcome.Reading as reading
 use Rattle.request_list.specs.List.{read_list}
 use Rattle.engine.specs.declared.answers.RunAnswer.{RunAnswer}
 use Rattle.engine.specs.declared.answers.RunAnswer.TheVariants.{Whole, Bad, Refused}

@@ -15,7 +15,7 @@ use Rattle.laws.proofs.Bools.{is_true, and_left, and_right}
 use Rattle.records.specs.Reading.{Read, got, fault}
 use Rattle.records.specs.Front.{Refusal}
 use Rattle.records.specs.Writing.{write_bytes}
-use Rattle.records.specs.declared.Reading.TheVariants.{Done, Refused}
+use Rattle.records.specs.Outcome.Reading.{Done, Refused}
 use Rattle.records.proofs.Wrote.{pair_eq, wrote, wrote_first}
 use Rattle.matrix_bytes.specs.Answers.{as_matrix, read_matrix}
 use Rattle.matrix_bytes.specs.FunctionTrips.{FunctionTrips}

@@ -14,8 +14,8 @@ use Rattle.laws.proofs.Differ.{constructors_differ}
 use Rattle.records.specs.Reading.{Read, got, fault, Reader, steps}
 use Rattle.records.specs.Front.{Refusal, in_record}
 use Rattle.records.specs.Told.{of_reading, reading_place}
-use Rattle.records.specs.declared.Reading.{Reading}
-use Rattle.records.specs.declared.Reading.TheVariants as reading
+use Rattle.records.specs.Outcome.Reading.{Reading}
+use Rattle.records.specs.Outcome.Reading as reading
 use Rattle.records.proofs.Trip.{Bytes}
 use Rattle.matrix_records.specs.Content.{Stated, ThingRecord}
 use Rattle.matrix_records.specs.Read.{head, thing}

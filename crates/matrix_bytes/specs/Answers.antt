@@ -9,7 +9,7 @@ use Rattle.model.specs.declared.Scheme.{Scheme}
 use Rattle.model.specs.declared.Things.{Things}
 use Rattle.records.specs.Reading.{Read, got, fault}
 use Rattle.records.specs.Front.{Refusal}
-use Rattle.records.specs.declared.Reading.TheVariants.{Done, Refused}
+use Rattle.records.specs.Outcome.Reading.{Done, Refused}
 use Rattle.matrix_bytes.specs.Read.{rest, matrix}
 use Rattle.matrix_bytes.specs.declared.answers.MatrixAnswer.{MatrixAnswer}
 

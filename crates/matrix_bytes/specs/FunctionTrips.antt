@@ -6,9 +6,9 @@ use Rattle.model.specs.Seats.{Matrix, stands_for}
 use Rattle.model.specs.declared.Scheme.{Scheme}
 use Rattle.model.specs.declared.Things.{Things}
 use Rattle.records.specs.Writing.{placed}
-use Rattle.records.specs.declared.Reading.TheVariants.{Done}
-use Rattle.records.specs.declared.Writing.{Writing}
-use Rattle.records.specs.declared.Writing.TheVariants as writing
+use Rattle.records.specs.Outcome.Reading.{Done}
+use Rattle.records.specs.Outcome.Writing.{Writing}
+use Rattle.records.specs.Outcome.Writing as writing
 use Rattle.matrix_bytes.specs.Answers.{read_matrix}
 use Rattle.matrix_bytes.specs.Content.{reseated}
 use Rattle.matrix_bytes.specs.Write.{write_matrix}

@@ -7,8 +7,8 @@ use Rattle.model.specs.declared.Head.{Head}
 use Rattle.model.specs.declared.Scheme.{Scheme}
 use Rattle.records.specs.Bytes.{record_bytes, each_bytes}
 use Rattle.records.specs.Writing.{write_bytes}
-use Rattle.records.specs.declared.Writing.{Writing}
-use Rattle.records.specs.declared.Writing.TheVariants.{Refused}
+use Rattle.records.specs.Outcome.Writing.{Writing}
+use Rattle.records.specs.Outcome.Writing.{Refused}
 use Rattle.matrix_records.specs.Write.{head_bytes, thing_bytes, thing_kind, cell_bytes}
 use Rattle.matrix_bytes.specs.Content.{things_of, cells_of}
 

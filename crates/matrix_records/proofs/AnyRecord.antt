@@ -10,7 +10,7 @@ use Rattle.laws.proofs.Differ.{constructors_differ}
 use Rattle.records.specs.Bytes.{number2}
 use Rattle.records.specs.Reading.{number, as_field2}
 use Rattle.records.specs.declared.Field2.TheVariants as two
-use Rattle.records.specs.declared.RecordAnswer.TheVariants.{Record, Refused}
+use Rattle.records.specs.Outcome.RecordAnswer.{Record, Refused}
 use Rattle.records.proofs.FieldLaws.{two_end, two_there}
 use Rattle.matrix_records.specs.Answers.{kind_at, any_record_at}
 

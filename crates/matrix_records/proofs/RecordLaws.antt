@@ -8,8 +8,8 @@ use Rattle.records.specs.Bytes.{part}
 use Rattle.records.specs.Reading.{Read, fault, Body, whole}
 use Rattle.records.specs.Front.{Refusal, against, record_at, in_record, on_body}
 use Rattle.records.specs.Told.{of_record, record_place}
-use Rattle.records.specs.declared.RecordAnswer.{RecordAnswer}
-use Rattle.records.specs.declared.RecordAnswer.TheVariants.{Record, Refused}
+use Rattle.records.specs.Outcome.RecordAnswer.{RecordAnswer}
+use Rattle.records.specs.Outcome.RecordAnswer.{Record, Refused}
 use Rattle.records.proofs.FrontLaws.{record_found, in_refused, in_record_lem}
 use Rattle.matrix_records.specs.Answers.{kind_at}
 

@@ -9,8 +9,8 @@ use Rattle.model.specs.declared.Things.{Things}
 use Rattle.records.specs.Bytes.{number2}
 use Rattle.records.specs.Reading.{Read, got, fault}
 use Rattle.records.specs.Front.{Refusal, against, in_record}
-use Rattle.records.specs.declared.RecordAnswer.{RecordAnswer}
-use Rattle.records.specs.declared.RecordAnswer.TheVariants.{Record, Refused}
+use Rattle.records.specs.Outcome.RecordAnswer.{RecordAnswer}
+use Rattle.records.specs.Outcome.RecordAnswer.{Record, Refused}
 use Rattle.matrix_records.specs.Content.{Stated, ThingRecord, CellRecord, listed}
 use Rattle.matrix_records.specs.Read.{head, thing, cell}
 use Rattle.matrix_records.specs.declared.answers.HeadAt.{HeadAt}

@@ -16,8 +16,8 @@ use Rattle.model.specs.declared.Head.{Head}
 use Rattle.records.specs.Bytes.{part}
 use Rattle.records.specs.Reading.{Read, got, fault, Reader, check, steps, done, field, number, whole}
 use Rattle.records.specs.Front.{Refusal, allowed, record_at, on_record, in_record}
-use Rattle.records.specs.declared.RecordAnswer.{RecordAnswer}
-use Rattle.records.specs.declared.RecordAnswer.TheVariants.{Record, Refused}
+use Rattle.records.specs.Outcome.RecordAnswer.{RecordAnswer}
+use Rattle.records.specs.Outcome.RecordAnswer.{Record, Refused}
 use Rattle.records.proofs.FrontLaws.{record_short, record_kind, record_found, in_refused}
 use Rattle.records.proofs.Trip.{Bytes, never}
 use Rattle.records.proofs.TripFields.{trip_number}

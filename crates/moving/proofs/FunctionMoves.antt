@@ -17,9 +17,9 @@ use Rattle.model.specs.declared.Things.{Things}
 use Rattle.records.specs.Reading.{Read, got, fault}
 use Rattle.records.specs.Front.{Refusal, against}
 use Rattle.records.specs.Writing.{placed, write_bytes}
-use Rattle.records.specs.declared.Reading.TheVariants as reading
-use Rattle.records.specs.declared.Writing.{Writing}
-use Rattle.records.specs.declared.Writing.TheVariants as writing
+use Rattle.records.specs.Outcome.Reading as reading
+use Rattle.records.specs.Outcome.Writing.{Writing}
+use Rattle.records.specs.Outcome.Writing as writing
 use Rattle.records.proofs.Trip.{Bytes, bind_got, got_same}
 use Rattle.records.proofs.Wrote.{pair_eq, wrote, wrote_first}
 use Rattle.matrix_bytes.specs.Answers.{read_matrix}

@@ -14,8 +14,8 @@ use Rattle.laws.proofs.Differ.{constructors_differ}
 use Rattle.records.specs.Bytes.{little_endian, record_bytes, part}
 use Rattle.records.specs.Writing.{placed, write_bytes, write_record}
 use Rattle.records.specs.Told.{of_writing}
-use Rattle.records.specs.declared.Writing.{Writing}
-use Rattle.records.specs.declared.Writing.TheVariants as writing
+use Rattle.records.specs.Outcome.Writing.{Writing}
+use Rattle.records.specs.Outcome.Writing as writing
 use Rattle.records.proofs.BytesLaws.{length_record}
 use Rattle.records.proofs.FieldLaws.{one_off}
 use Rattle.records.proofs.PlacedLaws.{record_fits, length_placed, drop_at_placed}

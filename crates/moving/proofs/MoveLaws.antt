@@ -16,8 +16,8 @@ use Rattle.records.specs.Reading.{Read, got, fault}
 use Rattle.records.specs.Front.{Refusal}
 use Rattle.records.specs.Told.{of_reading, reading_place}
 use Rattle.records.specs.Writing.{write_bytes}
-use Rattle.records.specs.declared.Reading.{Reading}
-use Rattle.records.specs.declared.Reading.TheVariants as reading
+use Rattle.records.specs.Outcome.Reading.{Reading}
+use Rattle.records.specs.Outcome.Reading as reading
 use Rattle.records.proofs.Trip.{Bytes}
 use Rattle.matrix_bytes.specs.Answers.{as_matrix, read_matrix_by_head}
 use Rattle.matrix_bytes.specs.Read.{matrix}

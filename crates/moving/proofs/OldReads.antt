@@ -17,9 +17,9 @@ use Rattle.records.specs.Front.{Refusal, record_at, in_record}
 use Rattle.records.specs.Told.{of_field, of_record, record_place}
 use Rattle.records.specs.declared.Field.{Field}
 use Rattle.records.specs.declared.Field.TheVariants.{Value, Fault}
-use Rattle.records.specs.declared.Reading.TheVariants as reading
-use Rattle.records.specs.declared.RecordAnswer.{RecordAnswer}
-use Rattle.records.specs.declared.RecordAnswer.TheVariants.{Record, Refused}
+use Rattle.records.specs.Outcome.Reading as reading
+use Rattle.records.specs.Outcome.RecordAnswer.{RecordAnswer}
+use Rattle.records.specs.Outcome.RecordAnswer.{Record, Refused}
 use Rattle.records.proofs.FieldLaws.{one_off, none_left, field_fault}
 use Rattle.records.proofs.FrontLaws.{in_refused, in_record_lem}
 use Rattle.records.proofs.Trip.{Bytes}

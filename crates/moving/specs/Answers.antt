@@ -7,8 +7,8 @@ use Rattle.records.specs.Reading.{Read, got, fault}
 use Rattle.records.specs.Front.{Refusal, against}
 use Rattle.records.specs.Writing.{write_bytes}
 use Rattle.records.specs.Told.{Told, told}
-use Rattle.records.specs.declared.Writing.{Writing}
-use Rattle.records.specs.declared.Writing.TheVariants as writing
+use Rattle.records.specs.Outcome.Writing.{Writing}
+use Rattle.records.specs.Outcome.Writing as writing
 use Rattle.moving.specs.Moves.{forward, back}
 use Rattle.moving.specs.declared.answers.Moved.{Moved}
 use Rattle.moving.specs.declared.answers.Moved.TheVariants.{Done, Refused}

@@ -7,7 +7,7 @@ use Rattle.model.specs.declared.Scheme.{Scheme}
 use Rattle.model.specs.declared.Things.{Things}
 use Rattle.records.specs.Reading.{got}
 use Rattle.records.specs.Writing.{placed}
-use Rattle.records.specs.declared.Reading.TheVariants as reading
+use Rattle.records.specs.Outcome.Reading as reading
 use Rattle.matrix_bytes.specs.Answers.{read_matrix}
 use Rattle.matrix_bytes.specs.declared.answers.MatrixAnswer.{MatrixAnswer}
 use Rattle.moving.specs.Old.{old_matrix}

@@ -20,8 +20,8 @@ use Rattle.model.specs.declared.Things.{Things}
 use Rattle.records.specs.Bytes.{each_bytes}
 use Rattle.records.specs.Writing.{placed}
 use Rattle.records.specs.Told.{of_reading, reading_place}
-use Rattle.records.specs.declared.Reading.{Reading}
-use Rattle.records.specs.declared.Reading.TheVariants as reading
+use Rattle.records.specs.Outcome.Reading.{Reading}
+use Rattle.records.specs.Outcome.Reading as reading
 use Rattle.lines.specs.Put.{largest, put_text}
 use Rattle.lines.proofs.PutLaws.{from_start, put_then}
 use Rattle.lines.proofs.LineLaws.{few_in_line}

@@ -13,8 +13,8 @@ use Rattle.model.specs.Seats.{Matrix, seats}
 use Rattle.model.specs.declared.Reply.{Reply}
 use Rattle.model.specs.declared.Scheme.{Scheme}
 use Rattle.model.proofs.ReplyLaws.{reply_at, reply_dropped, replies_first, replies_few, replies_behind}
-use Rattle.records.specs.declared.Reading.{Reading}
-use Rattle.records.specs.declared.Reading.TheVariants as reading
+use Rattle.records.specs.Outcome.Reading.{Reading}
+use Rattle.records.specs.Outcome.Reading as reading
 use Rattle.lines.specs.Put.{largest, put_text}
 use Rattle.lines.proofs.PutLaws.{Left, left_all, left_on, left_last, left_none}
 use Rattle.lines.proofs.LineLaws.{few_in_line}

@@ -8,8 +8,8 @@ use lib.ListN.{length}
 use Rattle.records.specs.Bytes.{number2, part}
 use Rattle.records.specs.Reading.{Read, got, fault, Reader, bind, ◌>>=◌, ◌>>◌, check, steps, Body, byte, number, field, end, whole}
 use Rattle.records.specs.Front.{allowed, record_at, Refusal, on_body, on_record, in_record}
-use Rattle.records.specs.declared.RecordAnswer.{RecordAnswer}
-use Rattle.records.specs.declared.RecordAnswer.TheVariants.{Record, Refused}
+use Rattle.records.specs.Outcome.RecordAnswer.{RecordAnswer}
+use Rattle.records.specs.Outcome.RecordAnswer.{Record, Refused}
 
 -- ---- a reader all of whose faults pass
 module _ {F : Type 0} (ok : F → Bool) {I A : Type 0} where

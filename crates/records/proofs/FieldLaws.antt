@@ -1,11 +1,12 @@
 -- The fields of a body at a position: what each reader gives there, as the returns of `byte_at`, `field_at`, `field2_at` and `field8_at`
--- have it; and from such a function's answer back to the reader. Assumes nothing.
+-- have it; and from such a function's result back to the reader. Assumes nothing.
 use Prim.Native.Nat.{ℕ, zero, suc, ◌+◌, ◌*◌, ◌<◌, ◌≤◌}
 use native.Mathlib.Omega.{arith}
 use native.Mathlib.Nat.{add-zero, add_assoc}
 use native.Mathlib.Numerals.{add-one}
 use native.Mathlib.Decide.{dec_lt}
-use mathlib.Core.Bool.{Bool, true, false, ◌&&◌}
+use mathlib.Core.Bool.{Bool, true, false, cond, ◌&&◌, and-false}
+use mathlib.Core.Logic.{◌⊎◌, inl, inr}
 use mathlib.Core.List.{List, [], ◌∷◌}
 use mathlib.Core.Path.{◌≡◌, refl, sym, ap, ◌∙◌}
 use lib.ListN.{length, get_or, drop, length-drop, drop_of_length-le}
@@ -13,10 +14,11 @@ use lib.Dec.{leb, ltb}
 use lib.Seq.{drop-cons, drop-drop}
 use borrow.Author.Tests.{le-leb, lt-leb, lt-ltb, le-ltb, leb-true, ltb-true}
 use Rattle.records.specs.Bytes.{number2}
-use Rattle.records.specs.Reading.{Read, got, fault, byte, number, field, as_field, as_field2, as_field8, bind, check, done}
-use Rattle.records.specs.declared.Field.TheVariants as one
-use Rattle.records.specs.declared.Field2.TheVariants as two
-use Rattle.records.specs.declared.Field8.TheVariants as eight
+use Rattle.std.specs.Prelude.{Ok, Err}
+use Rattle.faults.specs.Numbers.{fault_of}
+use Rattle.faults.specs.declared.Fault.{Fault}
+use Rattle.records.specs.Reading.{Read, got, fault, byte, number, field, bind, check, done}
+use Rattle.records.specs.Results.{value_of}
 use Rattle.laws.proofs.Differ.{constructors_differ}
 
 module _ (b : List ℕ) (i : ℕ) where
@@ -81,43 +83,54 @@ module _ (b : List ℕ) (i : ℕ) where
   unfolding number_at number2
   number_eight = simp add_assoc (omega arith)
 
-  pub two_end : length b < i + 2 → two.Fault 3 ≡ as_field2 (number 2 (drop i b))
-  two_end h = rw (number_end 1 b i h)
+  pub two_end : length b < i + 2 → number 2 (drop i b) ≡ fault 3
+  two_end h = number_end 1 b i h
 
-  pub eight_end : length b < i + 8 → eight.Fault 3 ≡ as_field8 (number 8 (drop i b))
-  eight_end h = rw (number_end 7 b i h)
+  pub eight_end : length b < i + 8 → number 8 (drop i b) ≡ fault 3
+  eight_end h = number_end 7 b i h
 
-  pub two_there : i + 2 ≤ length b → (v : ℕ) → v ≡ number2 b i → two.Value v ≡ as_field2 (number 2 (drop i b))
-  two_there h v e = rw (number_there 2 b i h, number_two) (ap two.Value e)
+  pub two_there : i + 2 ≤ length b → number 2 (drop i b) ≡ got (number2 b i) (drop (i + 2) b)
+  two_there h = rw (number_there 2 b i h, number_two)
 
   pub eight_there : i + 8 ≤ length b → (low high v : ℕ) → low ≡ number2 b i + 65536 * number2 b (i + 2) →
-      high ≡ number2 b (i + 4) + 65536 * number2 b (i + 4 + 2) → v ≡ low + 4294967296 * high → eight.Value v ≡ as_field8 (number 8 (drop i b))
-  eight_there h low high v el eh e = rw (number_there 8 b i h, number_eight) (ap eight.Value (e ∙ rw (el, eh)))
+      high ≡ number2 b (i + 4) + 65536 * number2 b (i + 4 + 2) → v ≡ low + 4294967296 * high → number 8 (drop i b) ≡ got v (drop (i + 8) b)
+  eight_there h low high v el eh e = rw (number_there 8 b i h, number_eight) (ap (λ (w : ℕ). got w (drop (i + 8) b)) (sym (e ∙ rw (el, eh))))
 
--- ---- from the answer of a function back to the reader
-as_value : (r : Read (List ℕ) ℕ ℕ) (v : ℕ) → as_field r ≡ one.Value v → (t : List ℕ) × (r ≡ got v t)
-as_value (got u t) v e = (t, let f : u ≡ v = cc in rw f)
-as_value (fault k) v e = constructors_differ (cc)
+-- ---- from the result of a function back to the reader
+module _ {I A : Type 0} where
+  pub value_back : (r : Read I ℕ A) {a : A} → value_of r ≡ Ok a → (t : I) × (r ≡ got a t)
+  value_back (got x t) {a} e = (t, let f : x ≡ a = cc in rw f)
+  value_back (fault k) e = constructors_differ (cc)
 
-as_value2 : (r : Read (List ℕ) ℕ ℕ) (v : ℕ) → as_field2 r ≡ two.Value v → (t : List ℕ) × (r ≡ got v t)
-as_value2 (got u t) v e = (t, let f : u ≡ v = cc in rw f)
-as_value2 (fault k) v e = constructors_differ (cc)
+  pub fault_back : (r : Read I ℕ A) {f : Fault} → value_of r ≡ Err f → (k : ℕ) × (r ≡ fault k) × (f ≡ fault_of k)
+  fault_back (got x t) e = constructors_differ (cc)
+  fault_back (fault k) {f} e = (k, refl, let g : fault_of k ≡ f = cc in sym g)
 
-as_value8 : (r : Read (List ℕ) ℕ ℕ) (v : ℕ) → as_field8 r ≡ eight.Value v → (t : List ℕ) × (r ≡ got v t)
-as_value8 (got u t) v e = (t, let f : u ≡ v = cc in rw f)
-as_value8 (fault k) v e = constructors_differ (cc)
+-- ---- a field from the byte that it is read from
+module _ (low limit k : ℕ) (l : List ℕ) where
+  pub field_none : {f : Fault} → value_of (byte l) ≡ Err f → Err f ≡ value_of (field low limit k l)
+  unfolding field
+  field_none {f} e = go (byte l) e
+    where
+      go : (r : Read (List ℕ) ℕ ℕ) → value_of r ≡ Err f → Err f ≡ value_of (bind r (λ v. λ i. bind (check (leb low v && ltb v limit) k i) (λ _. done v)))
+      go (got x t) e = constructors_differ (cc)
+      go (fault j) e = sym e
 
-pub field_fault : (r : Read (List ℕ) ℕ ℕ) (k : ℕ) → as_field r ≡ one.Fault k → r ≡ fault k
-field_fault (got u t) k e = constructors_differ (cc)
-field_fault (fault j) k e = let f : j ≡ k = cc in rw f
+  module _ {v : ℕ} (e : value_of (byte l) ≡ Ok v) where
+    field_tested : (c : Bool) → (leb low v && ltb v limit) ≡ c → value_of (field low limit k l) ≡ cond c (Ok v) (Err (fault_of k))
+    unfolding field
+    field_tested c ec = let g = value_back (byte l) e in rw (g.1, ec) (go c)
+      where
+        go : (c : Bool) → value_of (bind (check c k (value_back (byte l) e).0) (λ _. done v)) ≡ cond c (Ok v) (Err (fault_of k))
+        go true = refl
+        go false = refl
 
-pub field2_fault : (r : Read (List ℕ) ℕ ℕ) (k : ℕ) → as_field2 r ≡ two.Fault k → r ≡ fault k
-field2_fault (got u t) k e = constructors_differ (cc)
-field2_fault (fault j) k e = let f : j ≡ k = cc in rw f
+    pub field_outside : (v < low) ⊎ (limit ≤ v) → Err (fault_of k) ≡ value_of (field low limit k l)
+    field_outside (inl h) = sym (field_tested false (rw (lt-leb low v h)))
+    field_outside (inr h) = sym (field_tested false (rw (le-ltb v limit h) (and-false (leb low v))))
 
-pub field8_fault : (r : Read (List ℕ) ℕ ℕ) (k : ℕ) → as_field8 r ≡ eight.Fault k → r ≡ fault k
-field8_fault (got u t) k e = constructors_differ (cc)
-field8_fault (fault j) k e = let f : j ≡ k = cc in rw f
+    pub field_inside : low ≤ v → v < limit → Ok v ≡ value_of (field low limit k l)
+    field_inside h q = sym (field_tested true (rw (le-leb low v h, lt-ltb v limit q)))
 
 -- what each took
 pub byte_was : (l : List ℕ) (v : ℕ) (t : List ℕ) → byte l ≡ got v t → l ≡ v ∷ t
@@ -147,21 +160,18 @@ module _ (b : List ℕ) (i j v : ℕ) where
   behind : (t : List ℕ) → drop i b ≡ v ∷ t → j ≡ i + 1 → t ≡ drop j b
   behind t e ej = ap (drop 1) (sym e) ∙ drop-drop 1 i b ∙ rw ej
 
-  pub byte_value : j ≡ i + 1 → as_field (byte (drop i b)) ≡ one.Value v → byte (drop i b) ≡ got v (drop j b)
+  pub byte_value : j ≡ i + 1 → value_of (byte (drop i b)) ≡ Ok v → byte (drop i b) ≡ got v (drop j b)
   byte_value ej e =
-      let g = as_value (byte (drop i b)) v e in
+      let g = value_back (byte (drop i b)) e in
       g.1 ∙ ap (got v) (behind g.0 (byte_was (drop i b) v g.0 g.1) ej)
 
-  pub field_value : (low limit k : ℕ) → j ≡ i + 1 → as_field (field low limit k (drop i b)) ≡ one.Value v → field low limit k (drop i b) ≡ got v (drop j b)
+  pub field_value : (low limit k : ℕ) → j ≡ i + 1 → value_of (field low limit k (drop i b)) ≡ Ok v → field low limit k (drop i b) ≡ got v (drop j b)
   field_value low limit k ej e =
-      let g = as_value (field low limit k (drop i b)) v e in
+      let g = value_back (field low limit k (drop i b)) e in
       g.1 ∙ ap (got v) (behind g.0 (field_was low limit k (drop i b) v g.0 g.1).0 ej)
 
-  pub field2_value : j ≡ i + 2 → as_field2 (number 2 (drop i b)) ≡ two.Value v → number 2 (drop i b) ≡ got v (drop j b)
-  field2_value ej e = let g = as_value2 (number 2 (drop i b)) v e in g.1 ∙ ap (got v) (number_was 2 b i v g.0 g.1 ∙ rw ej)
+  pub number_value : (w : ℕ) → j ≡ i + w → value_of (number w (drop i b)) ≡ Ok v → number w (drop i b) ≡ got v (drop j b)
+  number_value w ej e = let g = value_back (number w (drop i b)) e in g.1 ∙ ap (got v) (number_was w b i v g.0 g.1 ∙ rw ej)
 
-  pub field8_value : j ≡ i + 8 → as_field8 (number 8 (drop i b)) ≡ eight.Value v → number 8 (drop i b) ≡ got v (drop j b)
-  field8_value ej e = let g = as_value8 (number 8 (drop i b)) v e in g.1 ∙ ap (got v) (number_was 8 b i v g.0 g.1 ∙ rw ej)
-
-pub field_between : (r : List ℕ) (low limit k v : ℕ) → as_field (field low limit k r) ≡ one.Value v → (low ≤ v) × (v < limit)
-field_between r low limit k v e = let g = as_value (field low limit k r) v e in let w = field_was low limit k r v g.0 g.1 in (w.1, w.2)
+pub field_between : (r : List ℕ) (low limit k v : ℕ) → value_of (field low limit k r) ≡ Ok v → (low ≤ v) × (v < limit)
+field_between r low limit k v e = let g = value_back (field low limit k r) e in let w = field_was low limit k r v g.0 g.1 in (w.1, w.2)

@@ -11,10 +11,10 @@ use lib.Seq.{take_all, take-nil}
 use borrow.Author.Tests.{le-leb, lt-leb, lt-ltb, le-ltb, leb-true}
 use Rattle.rights.specs.Sets.{has}
 use Rattle.records.specs.Bytes.{number2, part}
-use Rattle.records.specs.Front.{allowed, record_at, next_at, after_record, passed_up, in_record, on_body}
+use Rattle.records.specs.Front.{allowed, record_at, next_at, after_record, in_record, on_body}
 use Rattle.records.specs.Reading.{fault, Body, whole}
-use Rattle.records.specs.declared.RecordAnswer.TheVariants.{Record, Refused}
-use Rattle.records.specs.declared.Reading.TheVariants as reading
+use Rattle.records.specs.Outcome.RecordAnswer.{Record, Refused}
+use Rattle.records.specs.Outcome.Reading as reading
 use Rattle.laws.proofs.Differ.{constructors_differ}
 
 -- ---- the kinds
@@ -110,8 +110,3 @@ module _ {A : Type 0} (s : List ℕ) (at kinds : ℕ) (p : ℕ → Body A) where
       in_record s kinds p at ≡ on_body at (start + len) (whole (p kind) (part s start len))
   unfolding in_record
   in_record_lem kind start len e = rw e
-
--- ---- a refusal, passed up
-pub passed_refused : (k p : ℕ) → passed_up (Refused k p) ≡ reading.Refused k p
-unfolding passed_up
-passed_refused k p = refl

@@ -3,6 +3,8 @@ pub mod BytesLaws
 pub mod PlacedLaws
 pub mod FieldLaws
 pub mod FrontLaws
+pub mod ResultLaws
+pub mod Lines
 pub mod Trip
 pub mod TripFields
 pub mod RecordAt

@@ -10,8 +10,8 @@ use lib.Seq.{sets, sets-eq, take_all, take_at, drop_at, drop-drop, drop-append-l
 use borrow.Author.Tests.{le-leb, lt-leb}
 use Rattle.records.specs.Bytes.{record_bytes}
 use Rattle.records.specs.Writing.{placed, write_bytes, write_record}
-use Rattle.records.specs.declared.Writing.{Writing}
-use Rattle.records.specs.declared.Writing.TheVariants.{Done, Refused}
+use Rattle.records.specs.Outcome.Writing.{Writing}
+use Rattle.records.specs.Outcome.Writing.{Done, Refused}
 
 -- stored in a part that is the first n bytes, it is stored in the whole
 pub first_stored : (l : List ℕ) (n : ℕ) (vs : List ℕ) → length vs ≡ n → n ≤ length l → sets (take n l) 0 vs ++ drop n l ≡ sets l 0 vs

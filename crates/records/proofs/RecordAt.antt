@@ -13,7 +13,7 @@ use mir.Facts.{and_yes}
 use Rattle.rights.specs.Sets.{has}
 use Rattle.records.specs.Bytes.{little_endian, record_bytes, number2, part}
 use Rattle.records.specs.Front.{allowed, record_at}
-use Rattle.records.specs.declared.RecordAnswer.TheVariants.{Record}
+use Rattle.records.specs.Outcome.RecordAnswer.{Record}
 use Rattle.records.proofs.BytesLaws.{length_record}
 use Rattle.records.proofs.FrontLaws.{Found, record_whole}
 use Rattle.records.proofs.Trip.{Bytes, Stand}

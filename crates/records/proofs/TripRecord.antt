@@ -12,8 +12,8 @@ use lib.Seq.{get_or-drop}
 use Rattle.records.specs.Bytes.{record_bytes, part}
 use Rattle.records.specs.Reading.{Read, got, fault, Body, done, end, whole, ◌>>◌}
 use Rattle.records.specs.Front.{allowed, record_at, on_body, on_record, in_record}
-use Rattle.records.specs.declared.RecordAnswer.{RecordAnswer}
-use Rattle.records.specs.declared.RecordAnswer.TheVariants.{Record, Refused}
+use Rattle.records.specs.Outcome.RecordAnswer.{RecordAnswer}
+use Rattle.records.specs.Outcome.RecordAnswer.{Record, Refused}
 use Rattle.records.proofs.Trip.{Trip, Bytes, Stand, body, input, never, got_value, got_left, bind_got, trip_as}
 use Rattle.records.proofs.BytesLaws.{length_record}
 use Rattle.records.proofs.FrontLaws.{Found, record_found}

@@ -9,8 +9,8 @@ use lib.Dec.{T, leb}
 use lib.ListN.{length, take}
 use borrow.Author.Tests.{leb-true}
 use Rattle.records.specs.Writing.{placed, write_bytes}
-use Rattle.records.specs.declared.Writing.{Writing}
-use Rattle.records.specs.declared.Writing.TheVariants.{Done, Refused}
+use Rattle.records.specs.Outcome.Writing.{Writing}
+use Rattle.records.specs.Outcome.Writing.{Done, Refused}
 use Rattle.records.proofs.PlacedLaws.{take_through_placed}
 use Rattle.laws.proofs.Differ.{constructors_differ}
 

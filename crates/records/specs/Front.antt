@@ -4,10 +4,10 @@ use Rattle.std.specs.Prelude.{ℕ, ◌+◌, Bool, cond, ◌&&◌, List, leb, ltb
 use Rattle.rights.specs.Sets.{has}
 use Rattle.records.specs.Bytes.{number2, part}
 use Rattle.records.specs.Reading.{Read, got, fault, Reader, Body, whole}
-use Rattle.records.specs.declared.RecordAnswer.{RecordAnswer}
-use Rattle.records.specs.declared.RecordAnswer.TheVariants.{Record, Refused}
-use Rattle.records.specs.declared.Reading.{Reading}
-use Rattle.records.specs.declared.Reading.TheVariants as reading
+use Rattle.records.specs.Outcome.RecordAnswer.{RecordAnswer}
+use Rattle.records.specs.Outcome.RecordAnswer.{Record, Refused}
+use Rattle.records.specs.Outcome.Reading.{Reading}
+use Rattle.records.specs.Outcome.Reading as reading
 
 -- the kinds that may stand there are a set with bit k for kind k; all 16 bits of a kind count
 unfoldable pub allowed : ℕ → ℕ → Bool
@@ -30,11 +30,6 @@ after_record (Refused number at) = reading.Refused number at
 
 unfoldable pub next_at : List ℕ → ℕ → ℕ → Reading
 next_at s at kinds = after_record (record_at s at kinds)
-
--- a refusal as it is passed up; it is asked of no record
-unfoldable pub passed_up : RecordAnswer → Reading
-passed_up (Record kind start len) = reading.Refused 0 0
-passed_up (Refused number at) = reading.Refused number at
 
 -- a refusal of a whole record: a number with the record's position
 pub record Refusal : Type 0 where

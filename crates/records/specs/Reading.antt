@@ -2,12 +2,6 @@
 -- one after the other by `do`, so the first fault is that of the first line that fails.
 -- The input is what is left of a body (a list of bytes) or a position; a fault is a number, or a number with a position. Assumes nothing.
 use Rattle.std.specs.Prelude.{ℕ, zero, suc, ◌+◌, ◌*◌, Bool, true, false, ◌&&◌, List, [], ◌∷◌, leb, ltb}
-use Rattle.records.specs.declared.Field.{Field}
-use Rattle.records.specs.declared.Field.TheVariants as one
-use Rattle.records.specs.declared.Field2.{Field2}
-use Rattle.records.specs.declared.Field2.TheVariants as two
-use Rattle.records.specs.declared.Field8.{Field8}
-use Rattle.records.specs.declared.Field8.TheVariants as eight
 
 infixr 10 ◌>>=◌
 infixr 10 ◌>>◌
@@ -82,16 +76,3 @@ whole p = do
   a ← p
   end
   done a
-
--- ---- the answers of the functions that read one field
-abbrev pub as_field : Read (List ℕ) ℕ ℕ → Field
-as_field (got v rest) = one.Value v
-as_field (fault k) = one.Fault k
-
-abbrev pub as_field2 : Read (List ℕ) ℕ ℕ → Field2
-as_field2 (got v rest) = two.Value v
-as_field2 (fault k) = two.Fault k
-
-abbrev pub as_field8 : Read (List ℕ) ℕ ℕ → Field8
-as_field8 (got v rest) = eight.Value v
-as_field8 (fault k) = eight.Fault k

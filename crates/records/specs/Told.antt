@@ -1,18 +1,14 @@
 -- What an answer tells: for each of its cases the outline's number, 0 for success, and the values that go with it.
 -- Assumes nothing.
-use Rattle.std.specs.Prelude.{ℕ, List, [], ◌∷◌}
-use Rattle.records.specs.declared.Field.{Field}
-use Rattle.records.specs.declared.Field.TheVariants as one
-use Rattle.records.specs.declared.Field2.{Field2}
-use Rattle.records.specs.declared.Field2.TheVariants as two
-use Rattle.records.specs.declared.Field8.{Field8}
-use Rattle.records.specs.declared.Field8.TheVariants as eight
-use Rattle.records.specs.declared.RecordAnswer.{RecordAnswer}
-use Rattle.records.specs.declared.RecordAnswer.TheVariants as record_answer
-use Rattle.records.specs.declared.Reading.{Reading}
-use Rattle.records.specs.declared.Reading.TheVariants as reading
-use Rattle.records.specs.declared.Writing.{Writing}
-use Rattle.records.specs.declared.Writing.TheVariants as writing
+use Rattle.std.specs.Prelude.{ℕ, List, [], ◌∷◌, Result, Ok, Err}
+use Rattle.faults.specs.Numbers.{number_of}
+use Rattle.faults.specs.declared.Fault.{Fault}
+use Rattle.records.specs.Outcome.RecordAnswer.{RecordAnswer}
+use Rattle.records.specs.Outcome.RecordAnswer as record_answer
+use Rattle.records.specs.Outcome.Reading.{Reading}
+use Rattle.records.specs.Outcome.Reading as reading
+use Rattle.records.specs.Outcome.Writing.{Writing}
+use Rattle.records.specs.Outcome.Writing as writing
 
 pub record Told : Type 0 where
   pub number : ℕ
@@ -21,18 +17,10 @@ pub record Told : Type 0 where
 abbrev pub told : ℕ → List ℕ → Told
 told k vs = record { number = k; values = vs }
 
--- a field: its value, or the number of its fault
-abbrev pub of_field : Field → Told
-of_field (one.Value v) = told 0 (v ∷ [])
-of_field (one.Fault k) = told k []
-
-abbrev pub of_field2 : Field2 → Told
-of_field2 (two.Value v) = told 0 (v ∷ [])
-of_field2 (two.Fault k) = told k []
-
-abbrev pub of_field8 : Field8 → Told
-of_field8 (eight.Value v) = told 0 (v ∷ [])
-of_field8 (eight.Fault k) = told k []
+-- a field or another part of a body: its value, or the number of its fault
+abbrev pub of_field : Result ℕ Fault → Told
+of_field (Ok v) = told 0 (v ∷ [])
+of_field (Err f) = told (number_of f) []
 
 -- a record: its kind, where its body begins and how long it is; or the number and the record's position
 abbrev pub of_record : RecordAnswer → Told

@@ -2,8 +2,8 @@
 -- Assumes nothing.
 use Rattle.std.specs.Prelude.{ℕ, ◌+◌, cond, List, ◌++◌, leb, length, take, drop}
 use Rattle.records.specs.Bytes.{record_bytes}
-use Rattle.records.specs.declared.Writing.{Writing}
-use Rattle.records.specs.declared.Writing.TheVariants.{Done, Refused}
+use Rattle.records.specs.Outcome.Writing.{Writing}
+use Rattle.records.specs.Outcome.Writing.{Done, Refused}
 
 -- the buffer with these bytes from a position on
 unfoldable pub placed : List ℕ → ℕ → List ℕ → List ℕ

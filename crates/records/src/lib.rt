@@ -1,56 +1,34 @@
 // Records: the front of one, its body lent back, its fields, and the writer's side. Every function takes any bytes and any position.
-#![tactic(auto)]
+#![tactic(auto, unfolding(faults::specs::Numbers::fault_of))]
 
-ghost use Rattle.std.specs.Prelude.{◌≡◌, List, ℕ, ◌+◌, ◌*◌, ◌<◌, ◌≤◌, length, drop, set};
+ghost use Rattle.std.specs.Prelude.{◌≡◌, List, ℕ, Result, ◌+◌, ◌*◌, ◌<◌, ◌≤◌, length, drop, set};
 ghost use Rattle.std.proofs.lemmas.List.Edits.{sets};
 ghost use Rattle.records.specs.Bytes.{little_endian, record_bytes, number2, part};
-ghost use Rattle.records.specs.Reading.{byte, number, field, as_field, as_field2, as_field8};
-ghost use Rattle.records.specs.Front.{allowed, record_at, passed_up, next_at};
+ghost use Rattle.records.specs.Reading.{byte, number, field};
+ghost use Rattle.records.specs.Front.{allowed, record_at, next_at};
 ghost use Rattle.records.specs.Writing.{write_bytes, write_record};
-ghost use Rattle.records.specs.Told.{of_field, of_field2, of_field8, of_record, of_reading, of_writing, record_place, reading_place};
+ghost use Rattle.records.specs.Results.{value_of, record_result, reading_result, written};
+ghost use Rattle.faults.specs.declared.Fault.{Fault};
+
+use faults::Fault;
 
 // The kinds that may stand at a place: bit k for kind k.
 #[derive(Clone, Copy)]
 pub struct Kinds(pub u16);
 
-// What stands at a position: a record, with its kind and where its body is; or the refusal's number with the record's position.
-#[derive(Clone, Copy)]
-pub enum RecordAnswer {
-    Record { kind: u16, start: usize, len: usize },
-    Refused { number: u8, at: usize },
+// A record that stands at a position: its kind, and where its body is.
+#[derive(Clone, Copy, Debug, PartialEq, Eq)]
+pub struct Record {
+    pub kind: u16,
+    pub start: usize,
+    pub len: usize,
 }
 
-// Where a reading ended: the next position; or the refusal's number with the record's position.
-#[derive(Clone, Copy)]
-pub enum Reading {
-    Done { next: usize },
-    Refused { number: u8, at: usize },
-}
-
-// Where a writing ended: the next position; or the refusal's number.
-#[derive(Clone, Copy)]
-pub enum Writing {
-    Done { next: usize },
-    Refused { number: u8 },
-}
-
-// A field of a body, of one, two or eight bytes: its value, or the number of its fault.
-#[derive(Clone, Copy)]
-pub enum Field {
-    Value(u8),
-    Fault(u8),
-}
-
-#[derive(Clone, Copy)]
-pub enum Field2 {
-    Value(u16),
-    Fault(u8),
-}
-
-#[derive(Clone, Copy)]
-pub enum Field8 {
-    Value(u64),
-    Fault(u8),
+// Why a whole record is refused, with its position.
+#[derive(Clone, Copy, Debug, PartialEq, Eq)]
+pub struct Refused {
+    pub fault: Fault,
+    pub at: usize,
 }
 
 impl Kinds {
@@ -61,106 +39,6 @@ impl Kinds {
             (self.0 >> kind) % 2 == 1
         } else {
             false
-        }
-    }
-}
-
-impl Field {
-    // The outline's number: 0 is success.
-    pub fn number(self) -> u8
-        ensures { result ≡ (of_field self).number }
-    {
-        match self {
-            Field::Value(_) => 0,
-            Field::Fault(x) => x,
-        }
-    }
-}
-
-impl Field2 {
-    // The outline's number: 0 is success.
-    pub fn number(self) -> u8
-        ensures { result ≡ (of_field2 self).number }
-    {
-        match self {
-            Field2::Value(_) => 0,
-            Field2::Fault(x) => x,
-        }
-    }
-}
-
-impl Field8 {
-    // The outline's number: 0 is success.
-    pub fn number(self) -> u8
-        ensures { result ≡ (of_field8 self).number }
-    {
-        match self {
-            Field8::Value(_) => 0,
-            Field8::Fault(x) => x,
-        }
-    }
-}
-
-impl RecordAnswer {
-    // The outline's number: 0 is success.
-    pub fn number(self) -> u8
-        ensures { result ≡ (of_record self).number }
-    {
-        match self {
-            RecordAnswer::Record {
-                kind: _,
-                start: _,
-                len: _,
-            } => 0,
-            RecordAnswer::Refused { number, at: _ } => number,
-        }
-    }
-
-    // The record's position, where it was refused.
-    pub fn at(self) -> usize
-        ensures { result ≡ record_place self }
-    {
-        match self {
-            RecordAnswer::Record {
-                kind: _,
-                start: _,
-                len: _,
-            } => 0,
-            RecordAnswer::Refused { number: _, at } => at,
-        }
-    }
-}
-
-impl Reading {
-    // The outline's number: 0 is success.
-    pub fn number(self) -> u8
-        ensures { result ≡ (of_reading self).number }
-    {
-        match self {
-            Reading::Done { next: _ } => 0,
-            Reading::Refused { number, at: _ } => number,
-        }
-    }
-
-    // The record's position, where it was refused.
-    pub fn at(self) -> usize
-        ensures { result ≡ reading_place self }
-    {
-        match self {
-            Reading::Done { next: _ } => 0,
-            Reading::Refused { number: _, at } => at,
-        }
-    }
-}
-
-impl Writing {
-    // The outline's number: 0 is success.
-    pub fn number(self) -> u8
-        ensures { result ≡ (of_writing self).number }
-    {
-        match self {
-            Writing::Done { next: _ } => 0,
-            Writing::Refused { number } => number,
         }
     }
 }
@@ -202,26 +80,31 @@ fn number4_at(s: &[u8], i: usize) -> u32
 // ---- a record
 
 // Front (1), kind (2), body's end (1).
-pub fn record_at(s: &[u8], at: usize, kinds: Kinds) -> RecordAnswer
-    ensures { result ≡ record_at s.now at kinds.0 }
+pub fn record_at(s: &[u8], at: usize, kinds: Kinds) -> Result<Record, Refused>
+    ensures { result ≡ record_result (record_at s.now at kinds.0) }
 {
-    if s.len() < at {
-        return RecordAnswer::Refused { number: 1, at };
-    }
-    if s.len() - at < 4 {
-        return RecordAnswer::Refused { number: 1, at };
+    if s.len() < at || s.len() - at < 4 {
+        return Err(Refused {
+            fault: Fault::Truncated,
+            at,
+        });
     }
     let kind = number2_at(s, at + 2);
     if !kinds.has(kind) {
-        return RecordAnswer::Refused { number: 2, at };
+        return Err(Refused {
+            fault: Fault::WrongKind,
+            at,
+        });
     }
-    let n = number2_at(s, at);
-    let len = n as usize;
+    let len = number2_at(s, at) as usize;
     let start = at + 4;
     if s.len() - start < len {
-        return RecordAnswer::Refused { number: 1, at };
+        return Err(Refused {
+            fault: Fault::Truncated,
+            at,
+        });
     }
-    RecordAnswer::Record { kind, start, len }
+    Ok(Record { kind, start, len })
 }
 
 // The body of a record as a part of the input; of a part that runs past the end, what there is of it.
@@ -238,86 +121,52 @@ pub fn body(s: &[u8], start: usize, len: usize) -> &[u8]
     &s[start..start + len]
 }
 
-// A refusal, with its number and position.
-fn passed_up(found: RecordAnswer) -> Reading
-    ensures { result ≡ passed_up found }
-{
-    match found {
-        RecordAnswer::Refused { number, at } => Reading::Refused { number, at },
-        RecordAnswer::Record {
-            kind: _,
-            start: _,
-            len: _,
-        } => Reading::Refused { number: 0, at: 0 },
-    }
-}
-
 // The position after the record that stands at a position.
-pub fn next_record(s: &[u8], at: usize, kinds: Kinds) -> Reading
-    ensures { result ≡ next_at s.now at kinds.0 }
+pub fn next_record(s: &[u8], at: usize, kinds: Kinds) -> Result<usize, Refused>
+    ensures { result ≡ reading_result (next_at s.now at kinds.0) }
 {
-    let found = record_at(s, at, kinds);
-    let RecordAnswer::Record {
-        kind: _,
-        start,
-        len,
-    } = found
-    else {
-        return passed_up(found);
-    };
-    Reading::Done { next: start + len }
+    let found = record_at(s, at, kinds)?;
+    Ok(found.start + found.len)
 }
 
 // ---- the fields of a body
 
-pub fn byte_at(b: &[u8], i: usize) -> Field
-    ensures { result ≡ as_field (byte (drop i b.now)) }
+pub fn byte_at(b: &[u8], i: usize) -> Result<u8, Fault>
+    ensures { result ≡ value_of (byte (drop i b.now)) }
 {
     if b.len() <= i {
-        return Field::Fault(3);
+        return Err(Fault::BodyEnd);
     }
-    Field::Value(b[i])
+    Ok(b[i])
 }
 
 // A byte from low on and below limit; another is the fault of this number.
-pub fn field_at(b: &[u8], i: usize, low: u8, limit: u8, number: u8) -> Field
-    ensures { result ≡ as_field (field low limit number (drop i b.now)) }
+pub fn field_at(b: &[u8], i: usize, low: u8, limit: u8, number: u8) -> Result<u8, Fault>
+    ensures { result ≡ value_of (field low limit number (drop i b.now)) }
 {
-    if b.len() <= i {
-        return Field::Fault(3);
+    let v = byte_at(b, i)?;
+    if v < low || limit <= v {
+        return Err(Fault::from(number));
     }
-    let v = b[i];
-    if v < low {
-        return Field::Fault(number);
-    }
-    if limit <= v {
-        return Field::Fault(number);
-    }
-    Field::Value(v)
+    Ok(v)
 }
 
-pub fn field2_at(b: &[u8], i: usize) -> Field2
-    ensures { result ≡ as_field2 (number 2 (drop i b.now)) }
+pub fn field2_at(b: &[u8], i: usize) -> Result<u16, Fault>
+    ensures { result ≡ value_of (number 2 (drop i b.now)) }
 {
-    if b.len() <= i {
-        return Field2::Fault(3);
+    if b.len() <= i || b.len() - i < 2 {
+        return Err(Fault::BodyEnd);
     }
-    if b.len() - i < 2 {
-        return Field2::Fault(3);
-    }
-    Field2::Value(number2_at(b, i))
+    Ok(number2_at(b, i))
 }
 
-pub fn field8_at(b: &[u8], i: usize) -> Field8
-    ensures { result ≡ as_field8 (number 8 (drop i b.now)) }
+pub fn field8_at(b: &[u8], i: usize) -> Result<u64, Fault>
+    ensures { result ≡ value_of (number 8 (drop i b.now)) }
 {
-    if b.len() <= i {
-        return Field8::Fault(3);
+    if b.len() <= i || b.len() - i < 8 {
+        return Err(Fault::BodyEnd);
     }
-    if b.len() - i < 8 {
-        return Field8::Fault(3);
-    }
-    Field8::Value(join8(number4_at(b, i), number4_at(b, i + 4)))
+    Ok(join8(number4_at(b, i), number4_at(b, i + 4)))
 }
 
 // ---- the writer's side: stores that have the meaning of `set`, so that one past the end changes nothing
@@ -385,34 +234,28 @@ fn put_record(part: &mut [u8], kind: u16, body: &[u8])
 }
 
 // Bytes as they are, in the output's part from a position on: 9 where there is no room.
-pub fn write_bytes(out: &mut [u8], at: usize, bytes: &[u8]) -> Writing
-    ensures { ◌≡◌ {A = Writing × List ℕ} (result, out.new) (write_bytes out.old at bytes.now) }
+pub fn write_bytes(out: &mut [u8], at: usize, bytes: &[u8]) -> Result<usize, Fault>
+    ensures { ◌≡◌ {A = Result ℕ Fault × List ℕ} (result, out.new) (written (write_bytes out.old at bytes.now)) }
 {
     let n = bytes.len();
-    if out.len() < at {
-        return Writing::Refused { number: 9 };
-    }
-    if out.len() - at < n {
-        return Writing::Refused { number: 9 };
+    if out.len() < at || out.len() - at < n {
+        return Err(Fault::NoRoom);
     }
     put_bytes(&mut out[at..], 0, bytes);
-    Writing::Done { next: at + n }
+    Ok(at + n)
 }
 
 // One record, in the output's part from a position on: 4 where the body has no length field, 9 where there is no room.
-pub fn write_record(out: &mut [u8], at: usize, kind: u16, body: &[u8]) -> Writing
-    ensures { ◌≡◌ {A = Writing × List ℕ} (result, out.new) (write_record out.old at kind body.now) }
+pub fn write_record(out: &mut [u8], at: usize, kind: u16, body: &[u8]) -> Result<usize, Fault>
+    ensures { ◌≡◌ {A = Result ℕ Fault × List ℕ} (result, out.new) (written (write_record out.old at kind body.now)) }
 {
     let n = body.len();
     if 65535 < n {
-        return Writing::Refused { number: 4 };
+        return Err(Fault::Count);
     }
-    if out.len() < at {
-        return Writing::Refused { number: 9 };
-    }
-    if out.len() - at < 4 + n {
-        return Writing::Refused { number: 9 };
+    if out.len() < at || out.len() - at < 4 + n {
+        return Err(Fault::NoRoom);
     }
     put_record(&mut out[at..], kind, body);
-    Writing::Done { next: at + 4 + n }
+    Ok(at + 4 + n)
 }

@@ -10,10 +10,10 @@ use borrow.Author.Tests.{eqb-true}
 use Rattle.records.specs.Bytes.{number2, part}
 use Rattle.records.specs.Reading.{Read, got, fault, ◌>>=◌, done, byte, field, whole}
 use Rattle.records.specs.Front.{Refusal, allowed, record_at, on_body, on_record, in_record}
-use Rattle.records.specs.declared.RecordAnswer.{RecordAnswer}
-use Rattle.records.specs.declared.RecordAnswer.TheVariants as record_answer
-use Rattle.records.specs.declared.Writing.{Writing}
-use Rattle.records.specs.declared.Writing.TheVariants as writing
+use Rattle.records.specs.Outcome.RecordAnswer.{RecordAnswer}
+use Rattle.records.specs.Outcome.RecordAnswer as record_answer
+use Rattle.records.specs.Outcome.Writing.{Writing}
+use Rattle.records.specs.Outcome.Writing as writing
 use Rattle.records.proofs.Trip.{got_value, bind_got}
 use Rattle.records.proofs.TripRecord.{in_record_back}
 use Rattle.records.proofs.Wrote.{Wrote, wrote}

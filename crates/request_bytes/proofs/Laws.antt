@@ -12,9 +12,9 @@ use Rattle.records.specs.Reading.{Read, got, fault, byte, field, whole, as_field
 use Rattle.records.specs.Front.{record_at, on_body}
 use Rattle.records.specs.Writing.{write_bytes}
 use Rattle.records.specs.declared.Field.TheVariants as one
-use Rattle.records.specs.declared.RecordAnswer.TheVariants as record_answer
-use Rattle.records.specs.declared.Writing.{Writing}
-use Rattle.records.specs.declared.Writing.TheVariants.{Refused}
+use Rattle.records.specs.Outcome.RecordAnswer as record_answer
+use Rattle.records.specs.Outcome.Writing.{Writing}
+use Rattle.records.specs.Outcome.Writing.{Refused}
 use Rattle.records.proofs.BytesLaws.{length_little_endian, length_record, sets_append, record_stored}
 use Rattle.records.proofs.FieldLaws.{one_off, none_left, byte_value, field_value, field_fault}
 use Rattle.records.proofs.FrontLaws.{in_refused, in_record_lem}

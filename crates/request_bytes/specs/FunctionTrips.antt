@@ -3,8 +3,8 @@
 -- Assumes nothing.
 use Rattle.std.specs.Prelude.{ℕ, ◌+◌, ◌-◌, ◌<◌, ◌≤◌, ◌≡◌, List, length, take, drop, get_or}
 use Rattle.records.specs.Writing.{placed}
-use Rattle.records.specs.declared.Writing.{Writing}
-use Rattle.records.specs.declared.Writing.TheVariants as writing
+use Rattle.records.specs.Outcome.Writing.{Writing}
+use Rattle.records.specs.Outcome.Writing as writing
 use Rattle.request_bytes.specs.Read.{ids_of, request_of, read_request}
 use Rattle.request_bytes.specs.Write.{write_request}
 use Rattle.request_bytes.specs.declared.answers.Request.{Request}

@@ -3,8 +3,8 @@
 use Rattle.std.specs.Prelude.{ℕ, cond, List, ◌∷◌, leb, length}
 use Rattle.records.specs.Bytes.{little_endian, record_bytes, each_bytes}
 use Rattle.records.specs.Writing.{write_bytes}
-use Rattle.records.specs.declared.Writing.{Writing}
-use Rattle.records.specs.declared.Writing.TheVariants.{Refused}
+use Rattle.records.specs.Outcome.Writing.{Writing}
+use Rattle.records.specs.Outcome.Writing.{Refused}
 
 unfoldable pub request_bytes : ℕ → List ℕ → List ℕ
 request_bytes command ids = record_bytes 6 (command ∷ length ids ∷ each_bytes (little_endian 2) ids)

@@ -9,9 +9,9 @@ use lib.ListN.{length, length-append}
 use Rattle.laws.specs.Check.{Each}
 use Rattle.model.specs.Request.{Request}
 use Rattle.records.specs.Bytes.{part}
-use Rattle.records.specs.declared.Reading.TheVariants as reading
-use Rattle.records.specs.declared.Writing.{Writing}
-use Rattle.records.specs.declared.Writing.TheVariants as writing
+use Rattle.records.specs.Outcome.Reading as reading
+use Rattle.records.specs.Outcome.Writing.{Writing}
+use Rattle.records.specs.Outcome.Writing as writing
 use Rattle.records.proofs.PlacedLaws.{placed_none, placed_behind, length_placed}
 use Rattle.records.proofs.Trip.{stand_placed, stand_part}
 use Rattle.records.proofs.Wrote.{Wrote, pair_eq}

@@ -10,8 +10,8 @@ use lib.Seq.{drop-length}
 use Rattle.laws.specs.Check.{Each}
 use Rattle.model.specs.Request.{Request}
 use Rattle.records.specs.Bytes.{part}
-use Rattle.records.specs.declared.Reading.{Reading}
-use Rattle.records.specs.declared.Reading.TheVariants as reading
+use Rattle.records.specs.Outcome.Reading.{Reading}
+use Rattle.records.specs.Outcome.Reading as reading
 use Rattle.records.proofs.Trip.{Bytes, Stand, stand_none, stand_join, stand_split, stand_part}
 use Rattle.request_bytes.specs.Read.{ids_of, request_of, read_request}
 use Rattle.request_bytes.specs.Write.{request_bytes}

@@ -3,8 +3,8 @@
 use Rattle.std.specs.Prelude.{ℕ, zero, suc, List, [], ◌∷◌, length}
 use Rattle.model.specs.Request.{Request}
 use Rattle.records.specs.Bytes.{each_bytes}
-use Rattle.records.specs.declared.Reading.{Reading}
-use Rattle.records.specs.declared.Reading.TheVariants as reading
+use Rattle.records.specs.Outcome.Reading.{Reading}
+use Rattle.records.specs.Outcome.Reading as reading
 use Rattle.request_bytes.specs.Read.{ids_of, read_request}
 use Rattle.request_bytes.specs.Write.{request_bytes}
 use Rattle.request_bytes.specs.declared.answers.Request.{Request as Form}

@@ -5,9 +5,9 @@ use Rattle.laws.specs.Check.{Each}
 use Rattle.model.specs.Request.{Request}
 use Rattle.records.specs.Bytes.{part}
 use Rattle.records.specs.Writing.{placed}
-use Rattle.records.specs.declared.Reading.TheVariants as reading
-use Rattle.records.specs.declared.Writing.{Writing}
-use Rattle.records.specs.declared.Writing.TheVariants as writing
+use Rattle.records.specs.Outcome.Reading as reading
+use Rattle.records.specs.Outcome.Writing.{Writing}
+use Rattle.records.specs.Outcome.Writing as writing
 use Rattle.request_list.specs.List.{read_list, list_bytes}
 use Rattle.request_list.specs.Write.{Sized, Writable, write_list}
 

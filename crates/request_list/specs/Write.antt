@@ -2,8 +2,8 @@
 -- Assumes nothing.
 use Rattle.std.specs.Prelude.{ℕ, ◌<◌, ◌≤◌, List, [], ◌∷◌, length, get_or}
 use Rattle.model.specs.Request.{Request}
-use Rattle.records.specs.declared.Writing.{Writing}
-use Rattle.records.specs.declared.Writing.TheVariants.{Done, Refused}
+use Rattle.records.specs.Outcome.Writing.{Writing}
+use Rattle.records.specs.Outcome.Writing.{Done, Refused}
 use Rattle.request_bytes.specs.Write.{write_request}
 
 -- what can be handed to `write_request`: a command number of one byte, and any number of ids of two bytes

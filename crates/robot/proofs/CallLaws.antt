@@ -13,9 +13,9 @@ use Rattle.model.specs.declared.Head.{Head}
 use Rattle.model.specs.declared.Scheme.{Scheme}
 use Rattle.model.specs.declared.Things.{Things}
 use Rattle.records.specs.Told.{of_reading, reading_place}
-use Rattle.records.specs.declared.Reading.{Reading}
-use Rattle.records.specs.declared.Reading.TheVariants.{Done, Refused}
-use Rattle.records.specs.declared.Writing.{Writing}
+use Rattle.records.specs.Outcome.Reading.{Reading}
+use Rattle.records.specs.Outcome.Reading.{Done, Refused}
+use Rattle.records.specs.Outcome.Writing.{Writing}
 use Rattle.records.proofs.Wrote.{wrote as was_written}
 use Rattle.scheme_bytes.specs.Write.{scheme_bytes, write_scheme}
 use Rattle.scheme_bytes.specs.Answers.{read_scheme}

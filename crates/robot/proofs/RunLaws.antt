@@ -20,10 +20,10 @@ use Rattle.model.specs.declared.Things.{Things}
 use Rattle.laws.proofs.Bools.{is_true, and_right}
 use Rattle.model.proofs.Joined.{run_kept}
 use Rattle.records.specs.Writing.{placed, write_bytes}
-use Rattle.records.specs.declared.Reading.{Reading}
-use Rattle.records.specs.declared.Reading.TheVariants as reading
-use Rattle.records.specs.declared.Writing.{Writing}
-use Rattle.records.specs.declared.Writing.TheVariants as writing
+use Rattle.records.specs.Outcome.Reading.{Reading}
+use Rattle.records.specs.Outcome.Reading as reading
+use Rattle.records.specs.Outcome.Writing.{Writing}
+use Rattle.records.specs.Outcome.Writing as writing
 use Rattle.records.proofs.Wrote.{pair_eq, wrote}
 use Rattle.matrix_bytes.specs.Answers.{read_matrix, read_matrix_by_head}
 use Rattle.matrix_bytes.specs.Write.{matrix_bytes, write_matrix, write_matrix_by_head}

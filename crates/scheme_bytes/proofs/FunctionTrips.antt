@@ -10,7 +10,7 @@ use Rattle.laws.proofs.Bools.{is_true}
 use Rattle.records.specs.Reading.{Read, got, fault}
 use Rattle.records.specs.Front.{Refusal}
 use Rattle.records.specs.Writing.{write_bytes}
-use Rattle.records.specs.declared.Reading.TheVariants.{Done}
+use Rattle.records.specs.Outcome.Reading.{Done}
 use Rattle.records.proofs.Wrote.{wrote, wrote_first}
 use Rattle.scheme_bytes.specs.Answers.{as_scheme, read_scheme}
 use Rattle.scheme_bytes.specs.FunctionTrips.{FunctionTrips}

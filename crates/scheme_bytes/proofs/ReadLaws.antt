@@ -20,8 +20,8 @@ use Rattle.records.specs.Bytes.{part}
 use Rattle.records.specs.Front.{Refusal}
 use Rattle.records.specs.Reading.{Read, got, fault, Body, done, check, field, ◌>>=◌, ◌>>◌, byte, number}
 use Rattle.records.specs.Told.{of_reading, reading_place}
-use Rattle.records.specs.declared.Reading.{Reading}
-use Rattle.records.specs.declared.Reading.TheVariants as reading
+use Rattle.records.specs.Outcome.Reading.{Reading}
+use Rattle.records.specs.Outcome.Reading as reading
 use Rattle.records.proofs.Trip.{bind_got, check_got, got_value}
 use Rattle.records.proofs.TripRecord.{in_record_back}
 use Rattle.command_bytes.specs.Read.{head, head_at, command_at}

@@ -4,9 +4,9 @@
 use Rattle.std.specs.Prelude.{ℕ, ◌<◌, ◌≤◌, ◌≡◌, List, length, take, get_or}
 use Rattle.model.specs.declared.Scheme.{Scheme}
 use Rattle.records.specs.Writing.{placed}
-use Rattle.records.specs.declared.Reading.TheVariants.{Done}
-use Rattle.records.specs.declared.Writing.{Writing}
-use Rattle.records.specs.declared.Writing.TheVariants as writing
+use Rattle.records.specs.Outcome.Reading.{Done}
+use Rattle.records.specs.Outcome.Writing.{Writing}
+use Rattle.records.specs.Outcome.Writing as writing
 use Rattle.scheme_bytes.specs.Answers.{read_scheme}
 use Rattle.scheme_bytes.specs.Write.{write_scheme}
 

@@ -6,8 +6,8 @@ use Rattle.model.specs.Accepted.{accepted_scheme}
 use Rattle.model.specs.declared.Scheme.{Scheme}
 use Rattle.records.specs.Bytes.{record_bytes, each_bytes}
 use Rattle.records.specs.Writing.{write_bytes}
-use Rattle.records.specs.declared.Writing.{Writing}
-use Rattle.records.specs.declared.Writing.TheVariants.{Refused}
+use Rattle.records.specs.Outcome.Writing.{Writing}
+use Rattle.records.specs.Outcome.Writing.{Refused}
 use Rattle.command_bytes.specs.Write.{head_bytes, command_bytes}
 
 unfoldable pub scheme_bytes : Scheme → List ℕ

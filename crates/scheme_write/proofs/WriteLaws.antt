@@ -25,8 +25,8 @@ use Rattle.model.proofs.Form.{all_at}
 use Rattle.laws.proofs.Walks.{turn_used}
 use Rattle.records.specs.Bytes.{little_endian, record_bytes, each_bytes}
 use Rattle.records.specs.Writing.{placed, write_bytes}
-use Rattle.records.specs.declared.Writing.{Writing}
-use Rattle.records.specs.declared.Writing.TheVariants.{Done, Refused}
+use Rattle.records.specs.Outcome.Writing.{Writing}
+use Rattle.records.specs.Outcome.Writing.{Done, Refused}
 use Rattle.records.proofs.BytesLaws.{length_little_endian, length_record, sets_append, record_stored}
 use Rattle.records.proofs.PlacedLaws.{placed_none, placed_sets, part_placed, length_placed, placed_behind, write_short}
 use Rattle.records.proofs.Trip.{OkAll, length_all}

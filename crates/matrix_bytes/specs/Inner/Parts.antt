@@ -6,8 +6,8 @@ use Rattle.model.specs.declared.Head.{Head}
 use Rattle.model.specs.declared.Things.{Things}
 use Rattle.records.specs.Reading.{Read, got, fault}
 use Rattle.records.specs.Front.{Refusal, in_record}
-use Rattle.records.specs.declared.Reading.{Reading}
-use Rattle.records.specs.declared.Reading.TheVariants.{Done, Refused}
+use Rattle.records.specs.Outcome.Reading.{Reading}
+use Rattle.records.specs.Outcome.Reading.{Done, Refused}
 use Rattle.matrix_records.specs.Content.{ThingRecord, CellRecord, listed}
 use Rattle.matrix_records.specs.Read.{cell, start}
 use Rattle.matrix_records.specs.Answers.{place_in}

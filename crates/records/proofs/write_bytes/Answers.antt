@@ -1,15 +1,15 @@
 -- `records::write_bytes` meets its contract: what the lent part holds, said of the whole output, is `placed`; a refusal stores nothing.
 -- Assumes nothing.
 use native.Mathlib.Omega.{arith}
-use mathlib.Core.Path.{refl}
+use mathlib.Core.Path.{refl, ap}
+use Rattle.faults.specs.Numbers.{fault_of}
+use Rattle.records.specs.Results.{written}
 use Rattle.records.proofs.PlacedLaws.{write_short, write_done}
 use Rattle.records.proofs.write_bytes.Goals as goal
 
 pub returns-then-out-at : goal.returns-then-out-at
-returns-then-out-at c = write_short _ _ _ (omega arith)
-
-pub returns-then-out-at-2 : goal.returns-then-out-at-2
-returns-then-out-at-2 c = write_short _ _ _ (omega arith)
+unfolding fault_of
+returns-then-out-at c = let a = c.args in ap written (write_short a.out.now a.at a.bytes.now (omega arith))
 
 pub returns : goal.returns
-returns c = write_done _ _ _ _ _ (omega arith) refl c.put_bytes.ensures
+returns c = ap written (write_done _ _ _ _ _ (omega arith) refl c.put_bytes.ensures)

@@ -3,8 +3,8 @@
 use Rattle.std.specs.Prelude.{ℕ, length}
 use Rattle.model.specs.Seats.{Matrix}
 use Rattle.model.specs.declared.Scheme.{Scheme}
-use Rattle.records.specs.declared.Writing.{Writing}
-use Rattle.records.specs.declared.Writing.TheVariants as writing
+use Rattle.records.specs.Outcome.Writing.{Writing}
+use Rattle.records.specs.Outcome.Writing as writing
 use Rattle.request_list.specs.List.{Listed}
 use Rattle.engine.specs.declared.answers.RunAnswer.{RunAnswer}
 use Rattle.engine.specs.declared.answers.RunAnswer.TheVariants as ended

@@ -8,7 +8,7 @@ use Rattle.model.specs.declared.Head.{Head}
 use Rattle.model.specs.declared.Scheme.{Scheme}
 use Rattle.records.specs.Reading.{Read, got, fault, bind}
 use Rattle.records.specs.Front.{Refusal, against}
-use Rattle.records.specs.declared.Reading.TheVariants.{Done, Refused}
+use Rattle.records.specs.Outcome.Reading.{Done, Refused}
 use Rattle.command_bytes.specs.declared.answers.HeadAt.{HeadAt}
 use Rattle.command_bytes.specs.declared.answers.HeadAt.TheVariants as head_answer
 use Rattle.scheme_bytes.specs.Read.{scheme_rest}
