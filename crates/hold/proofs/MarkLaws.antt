@@ -16,8 +16,8 @@ use Rattle.model.specs.declared.Things.{Things}
 use Rattle.laws.proofs.Differ.{constructors_differ}
 use Rattle.model.proofs.SeatFound.{known_found}
 use Rattle.hold.specs.Marking.{mark_seat, mark_thing, as_marked, marked_by}
-use Rattle.hold.specs.declared.Marked.{Marked}
-use Rattle.hold.specs.declared.Marking.TheVariants.{Done, Refused}
+use Rattle.hold.specs.Outcome.Marked.{Marked}
+use Rattle.hold.specs.Outcome.Marking.{Done, Refused}
 
 -- ---- one mark
 module _ (b : Bool) (x : ℕ) (th : Things) where

@@ -1,7 +1,9 @@
 -- Hold and release: the office sets and clears the mark of a thing, by its id, on paper and in memory; 12 where there is no such thing.
 -- What is marked so already stays as it is. Assumes nothing.
-use Rattle.std.specs.Prelude.{ℕ, Bool, true, false, ◌&&◌, List, [], set}
+use Rattle.std.specs.Prelude.{ℕ, Bool, true, false, ◌&&◌, List, [], set, Result, Ok, Err}
 use Rattle.std.proofs.Math.Option.{Option, none, some}
+use Rattle.faults.specs.Numbers.{fault_of}
+use Rattle.faults.specs.declared.Fault.{Fault}
 use Rattle.laws.specs.Check.{must}
 use Rattle.model.specs.Request.{Thing, at, Outcome, done, refused, unless_fault}
 use Rattle.model.specs.Papers.{State, now_has}
@@ -10,9 +12,9 @@ use Rattle.model.specs.Accepted.{accepted_scheme, accepted_matrix}
 use Rattle.model.specs.declared.Scheme.{Scheme}
 use Rattle.model.specs.declared.Things.{Things}
 use Rattle.records.specs.Told.{Told, told}
-use Rattle.hold.specs.declared.Marked.{Marked}
-use Rattle.hold.specs.declared.Marking.{Marking}
-use Rattle.hold.specs.declared.Marking.TheVariants.{Done, Refused}
+use Rattle.hold.specs.Outcome.Marked.{Marked}
+use Rattle.hold.specs.Outcome.Marking.{Marking}
+use Rattle.hold.specs.Outcome.Marking.{Done, Refused}
 
 -- ---- on paper: X is what it was, with this mark
 
@@ -36,6 +38,14 @@ mark_thing b x th = unless_fault (must (known th x) (at 12 0)) (done (mark_seat 
 abbrev pub as_marked : Things → Outcome Things → Marked
 as_marked th (done now) = record { things = now; answer = Done }
 as_marked th (refused r) = record { things = th; answer = Refused r.number }
+
+abbrev pub marking_result : Marking → Result Unit Fault
+marking_result Done = Ok tt
+marking_result (Refused k) = Err (fault_of k)
+
+-- in Rust: the things are lent, and a refusal is a fault
+abbrev pub marked_result : Marked → Result Unit Fault × Things
+marked_result m = (marking_result m.answer, m.things)
 
 -- what the answer tells: nothing but the number of the refusal, 0 for success
 abbrev pub of_marking : Marking → Told

@@ -25,8 +25,8 @@ use Rattle.matrix_bytes.specs.Answers.{read_matrix, read_matrix_by_head}
 use Rattle.matrix_bytes.specs.Write.{write_matrix}
 use Rattle.matrix_bytes.specs.declared.answers.MatrixAnswer.{MatrixAnswer}
 use Rattle.hold.specs.Marking.{as_marked}
-use Rattle.hold.specs.declared.Marked.{Marked}
-use Rattle.hold.specs.declared.Marking.TheVariants as marking
+use Rattle.hold.specs.Outcome.Marked.{Marked}
+use Rattle.hold.specs.Outcome.Marking as marking
 use Rattle.hold.proofs.MarkLaws.{marked_refused, marked_done}
 use Rattle.moving.specs.declared.answers.Moved.{Moved}
 use Rattle.robot.specs.Library.{call, gives, gives_wrote, gives_ran, writing_by, wrote, moving_by, moved, after_scheme, with_scheme, after_matrix, with_matrix, not_written, marked_into, not_run}
