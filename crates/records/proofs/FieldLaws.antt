@@ -9,16 +9,19 @@ use mathlib.Core.Bool.{Bool, true, false, cond, ◌&&◌, and-false}
 use mathlib.Core.Logic.{◌⊎◌, inl, inr}
 use mathlib.Core.List.{List, [], ◌∷◌}
 use mathlib.Core.Path.{◌≡◌, refl, sym, ap, ◌∙◌}
-use lib.ListN.{length, get_or, drop, length-drop, drop_of_length-le}
+use lib.ListN.{length, get_or, take, drop, length-drop, drop_of_length-le}
 use lib.Dec.{leb, ltb}
 use lib.Seq.{drop-cons, drop-drop}
 use borrow.Author.Tests.{le-leb, lt-leb, lt-ltb, le-ltb, leb-true, ltb-true}
 use Rattle.records.specs.Bytes.{number2}
-use Rattle.std.specs.Prelude.{Ok, Err}
+use Rattle.std.specs.Prelude.{Result, Ok, Err, Option, Some, None}
+use Rattle.std.specs.Option.{ok_or}
 use Rattle.faults.specs.Numbers.{fault_of}
 use Rattle.faults.specs.declared.Fault.{Fault}
 use Rattle.records.specs.Reading.{Read, got, fault, byte, number, field, bind, check, done}
 use Rattle.records.specs.Results.{value_of}
+use Rattle.records.specs.Inner.Parts.{bytes_in}
+use Rattle.faults.specs.declared.Fault.TheVariants as fault
 use Rattle.laws.proofs.Differ.{constructors_differ}
 
 module _ (b : List ℕ) (i : ℕ) where
@@ -73,6 +76,19 @@ number_short (suc w) (x ∷ l) h = rw (number_short w l (omega arith))
 pub number_end : (w : ℕ) (b : List ℕ) (i : ℕ) → length b < i + suc w → number (suc w) (drop i b) ≡ fault 3
 number_end w b i h = number_short (suc w) (drop i b) (omega (arith, length-drop i b))
 
+short : (w : ℕ) (b : List ℕ) (i : ℕ) {o : Option (List ℕ)} {f : Fault} → o ≡ bytes_in (suc w) b i → Err f ≡ ok_or o fault.BodyEnd →
+    Err f ≡ value_of (number (suc w) (drop i b))
+unfolding fault_of
+short w b i {o} {f} e r = by (dec_lt (length b) (i + suc w))
+  where
+    by : Dec (length b < i + suc w) → Err f ≡ value_of (number (suc w) (drop i b))
+    by (yes l) = let n : o ≡ None = e ∙ rw (lt-leb _ _ l) in
+        let same : f ≡ fault.BodyEnd = (let q : ◌≡◌ {A = Result (List ℕ) Fault} (Err f) (Err fault.BodyEnd) = rw n at r in cc) in
+        rw (number_end w b i l, same)
+    by (no g) = let n : o ≡ Some (take (suc w) (drop i b)) = e ∙ rw (le-leb (i + suc w) (length b) (omega (arith, g))) in
+        let q : ◌≡◌ {A = Result (List ℕ) Fault} (Err f) (Ok (take (suc w) (drop i b))) = rw n at r in
+        constructors_differ (cc)
+
 -- of two and of eight bytes, as the functions join them
 module _ (b : List ℕ) (i : ℕ) where
   pub number_two : number_at 2 b i ≡ number2 b i
@@ -83,18 +99,12 @@ module _ (b : List ℕ) (i : ℕ) where
   unfolding number_at number2
   number_eight = simp add_assoc (omega arith)
 
-  pub two_end : length b < i + 2 → number 2 (drop i b) ≡ fault 3
-  two_end h = number_end 1 b i h
+  -- where there aren't as many bytes
+  pub two_short : {o : Option (List ℕ)} {f : Fault} → o ≡ bytes_in 2 b i → Err f ≡ ok_or o fault.BodyEnd → Err f ≡ value_of (number 2 (drop i b))
+  two_short e r = short 1 b i e r
 
-  pub eight_end : length b < i + 8 → number 8 (drop i b) ≡ fault 3
-  eight_end h = number_end 7 b i h
-
-  pub two_there : i + 2 ≤ length b → number 2 (drop i b) ≡ got (number2 b i) (drop (i + 2) b)
-  two_there h = rw (number_there 2 b i h, number_two)
-
-  pub eight_there : i + 8 ≤ length b → (low high v : ℕ) → low ≡ number2 b i + 65536 * number2 b (i + 2) →
-      high ≡ number2 b (i + 4) + 65536 * number2 b (i + 4 + 2) → v ≡ low + 4294967296 * high → number 8 (drop i b) ≡ got v (drop (i + 8) b)
-  eight_there h low high v el eh e = rw (number_there 8 b i h, number_eight) (ap (λ (w : ℕ). got w (drop (i + 8) b)) (sym (e ∙ rw (el, eh))))
+  pub eight_short : {o : Option (List ℕ)} {f : Fault} → o ≡ bytes_in 8 b i → Err f ≡ ok_or o fault.BodyEnd → Err f ≡ value_of (number 8 (drop i b))
+  eight_short e r = short 7 b i e r
 
 -- ---- from the result of a function back to the reader
 module _ {I A : Type 0} where

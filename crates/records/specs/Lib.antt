@@ -6,3 +6,4 @@ pub mod Front
 pub mod Writing
 pub mod Results
 pub mod Told
+pub mod Inner

@@ -9,6 +9,7 @@ ghost use Rattle.records.specs.Front.{allowed, record_at, next_at};
 ghost use Rattle.records.specs.Writing.{write_bytes, write_record};
 ghost use Rattle.records.specs.Results.{value_of, record_result, reading_result, written};
 ghost use Rattle.faults.specs.declared.Fault.{Fault};
+ghost use Rattle.records.specs.Inner.Parts.{bytes_in};
 
 use faults::Fault;
 
@@ -43,38 +44,20 @@ impl Kinds {
     }
 }
 
-// ---- numbers of several bytes
+// ---- bytes of a slice
 
-fn join2(low: u8, high: u8) -> u16
-    ensures { result ≡ low + 256 * high }
+// The N bytes from a position on, where there are as many.
+fn bytes_at<const N: usize>(s: &[u8], i: usize) -> Option<[u8; N]>
+    ensures { result ≡ bytes_in N s.now i }
 {
-    (low as u16) + 256 * (high as u16)
-}
-
-fn join4(low: u16, high: u16) -> u32
-    ensures { result ≡ low + 65536 * high }
-{
-    (low as u32) + 65536 * (high as u32)
-}
-
-fn join8(low: u32, high: u32) -> u64
-    ensures { result ≡ low + 4294967296 * high }
-{
-    (low as u64) + 4294967296 * (high as u64)
+    s.get(i..)?.first_chunk().copied()
 }
 
 fn number2_at(s: &[u8], i: usize) -> u16
     requires { i + 1 < length s.now }
     ensures { result ≡ number2 s.now i }
 {
-    join2(s[i], s[i + 1])
-}
-
-fn number4_at(s: &[u8], i: usize) -> u32
-    requires { i + 3 < length s.now }
-    ensures { result ≡ number2 s.now i + 65536 * number2 s.now (i + 2) }
-{
-    join4(number2_at(s, i), number2_at(s, i + 2))
+    u16::from_le_bytes([s[i], s[i + 1]])
 }
 
 // ---- a record
@@ -154,19 +137,15 @@ pub fn field_at(b: &[u8], i: usize, low: u8, limit: u8, number: u8) -> Result<u8
 pub fn field2_at(b: &[u8], i: usize) -> Result<u16, Fault>
     ensures { result ≡ value_of (number 2 (drop i b.now)) }
 {
-    if b.len() <= i || b.len() - i < 2 {
-        return Err(Fault::BodyEnd);
-    }
-    Ok(number2_at(b, i))
+    let bytes = bytes_at(b, i).ok_or(Fault::BodyEnd)?;
+    Ok(u16::from_le_bytes(bytes))
 }
 
 pub fn field8_at(b: &[u8], i: usize) -> Result<u64, Fault>
     ensures { result ≡ value_of (number 8 (drop i b.now)) }
 {
-    if b.len() <= i || b.len() - i < 8 {
-        return Err(Fault::BodyEnd);
-    }
-    Ok(join8(number4_at(b, i), number4_at(b, i + 4)))
+    let bytes = bytes_at(b, i).ok_or(Fault::BodyEnd)?;
+    Ok(u64::from_le_bytes(bytes))
 }
 
 // ---- the writer's side: stores that have the meaning of `set`, so that one past the end changes nothing
@@ -179,31 +158,26 @@ pub fn put1(out: &mut [u8], i: usize, v: u8)
     }
 }
 
-pub fn put2(out: &mut [u8], i: usize, v: u16)
-    ensures { out.new ≡ sets out.old i (little_endian 2 v) }
+// As many bytes as there is room for. Where the room is known, the compiler stores them at once.
+fn put_bytes(out: &mut [u8], i: usize, bytes: &[u8])
+    ensures { out.new ≡ sets out.old i bytes.now }
 {
     if i < out.len() {
-        put1(out, i, (v % 256) as u8);
-        put1(out, i + 1, (v / 256) as u8);
+        let n = bytes.len().min(out.len() - i);
+        out[i..i + n].copy_from_slice(&bytes[..n]);
     }
 }
 
-fn put4(out: &mut [u8], i: usize, v: u32)
-    ensures { out.new ≡ sets out.old i (little_endian 4 v) }
+pub fn put2(out: &mut [u8], i: usize, v: u16)
+    ensures { out.new ≡ sets out.old i (little_endian 2 v) }
 {
-    if i < out.len() {
-        put2(out, i, (v % 65536) as u16);
-        put2(out, i + 2, (v / 65536) as u16);
-    }
+    put_bytes(out, i, &v.to_le_bytes());
 }
 
 pub fn put8(out: &mut [u8], i: usize, v: u64)
     ensures { out.new ≡ sets out.old i (little_endian 8 v) }
 {
-    if i < out.len() {
-        put4(out, i, (v % 4294967296) as u32);
-        put4(out, i + 4, (v / 4294967296) as u32);
-    }
+    put_bytes(out, i, &v.to_le_bytes());
 }
 
 // The front of a record at the start of a part of the output.
@@ -212,17 +186,6 @@ pub fn put_front(part: &mut [u8], kind: u16, len: u16)
 {
     put2(part, 0, len);
     put2(part, 2, kind);
-}
-
-fn put_bytes(part: &mut [u8], i: usize, bytes: &[u8])
-    requires { i + length bytes.now ≤ length part.old }
-    ensures { part.new ≡ sets part.old i bytes.now }
-{
-    let mut j: usize = 0;
-    while j < bytes.len() {
-        part[i + j] = bytes[j];
-        j += 1;
-    }
 }
 
 fn put_record(part: &mut [u8], kind: u16, body: &[u8])

@@ -1,12 +1,9 @@
--- `records::put8` meets its contract: the bytes of a number are those of its halves.
+-- `records::put8` meets its contract: the standard library's bytes of a number are `little_endian`.
 -- Assumes nothing.
-use mathlib.Core.Path.{sym}
-use Rattle.records.specs.Bytes.{little_endian}
-use Rattle.records.proofs.BytesLaws.{put_halves, sets_out}
+use mathlib.Core.Path.{ap, ◌∙◌}
+use lib.Seq.{sets}
+use Rattle.records.proofs.BytesLaws.{eight_bytes_of}
 use Rattle.records.proofs.put8.Goals as goal
 
-pub returns-then-i-out : goal.returns-then-i-out
-returns-then-i-out c = put_halves _ _ _ _ _ 4 c.put4.ensures c.put4-then-i-out.ensures
-
-pub returns-else-i-out : goal.returns-else-i-out
-returns-else-i-out c = sym (sets_out _ _ (little_endian _ _) c.if-i-out.false)
+pub returns : goal.returns
+returns c = c.put_bytes.ensures ∙ ap (sets _ _) (c.to_le_bytes.ensures ∙ eight_bytes_of c.args.v)
