@@ -1,23 +1,23 @@
 -- A word read digit by digit: what stands behind the digits that were read decides the id, and five digits fit a word of 32 bits. Assumes nothing.
 use Prim.Native.Nat.{ℕ, ◌+◌, ◌-◌, ◌*◌, ◌^◌, ◌≤◌, ◌<◌}
-use native.Mathlib.Nat.{pow-le-pow_right}
 use native.Mathlib.Numerals.{add-one}
 use native.Mathlib.Omega.{arith}
 use mathlib.Core.Bool.{true, false, cond}
 use mathlib.Core.List.{List}
-use mathlib.Core.Option.{Option, none, some}
-use mathlib.Core.Path.{◌≡◌, refl, sym}
+use Rattle.std.specs.Prelude.{Option, Some, None, Result, Ok, Err, OkIff}
+use Rattle.std.specs.Result.{result_unwrap_or}
+use mathlib.Core.Path.{◌≡◌, refl, sym, ◌∙◌}
 use lib.Dec.{leb, leb→le}
 use lib.ListN.{length, drop, get_or}
 use borrow.Author.Tests.{le-leb, lt-leb}
 use Rattle.laws.specs.Check.{all, between}
-use Rattle.laws.proofs.Bools.{from_true, and_left, and_right}
+use Rattle.laws.proofs.Bools.{from_true, and_right}
 use Rattle.laws.proofs.Walks.{turn, ended}
 use Rattle.lines.specs.Ids.{is_digit, number_from, as_id, id_in}
 
 -- the id, if the bytes that are left go on behind digits that stand for n
 unfoldable pub id_from : ℕ → List ℕ → Option ℕ
-id_from n bytes = cond (all is_digit bytes) (some (as_id (number_from n bytes))) none
+id_from n bytes = cond (all is_digit bytes) (Some (as_id (number_from n bytes))) None
 
 pub id_small : (n : ℕ) → n ≤ 65535 → n ≡ as_id n
 unfolding as_id
@@ -27,23 +27,23 @@ pub id_large : (n : ℕ) → 65535 < n → 0 ≡ as_id n
 unfolding as_id
 id_large n h = rw (lt-leb n 65535 h)
 
-module _ (byte : ℕ) (is : is_digit byte ≡ true) where
-  pub digit_low : 48 ≤ byte
-  unfolding is_digit between
-  digit_low = leb→le 48 byte (and_left (leb 48 byte) (leb byte 57) (from_true is))
+-- the number, if a word of 16 bits holds it, and 0 if not
+pub id_of : {E : Type 0} (n : ℕ) (r : Result ℕ E) → OkIff r (n < 2 ^ 16) n → result_unwrap_or r 0 ≡ as_id n
+id_of n (Ok x) h = h.1 ∙ id_small n (omega arith)
+id_of n (Err e) h = id_large n (omega (arith, h))
 
-  pub digit_high : byte ≤ 57
-  unfolding is_digit between
-  digit_high = leb→le byte 57 (and_right (leb 48 byte) (leb byte 57) (from_true is))
+digit_high : (byte : ℕ) → is_digit byte ≡ true → byte ≤ 57
+unfolding is_digit between
+digit_high byte is = leb→le byte 57 (and_right (leb 48 byte) (leb byte 57) (from_true is))
 
 -- ---- how long the word is
 
 module _ (word : List ℕ) where
-  pub id_empty : length word ≡ 0 → id_in word ≡ none
+  pub id_empty : length word ≡ 0 → id_in word ≡ None
   unfolding id_in between
   id_empty e = rw e
 
-  pub id_long : 5 < length word → id_in word ≡ none
+  pub id_long : 5 < length word → id_in word ≡ None
   unfolding id_in between
   id_long h = rw (le-leb 1 (length word) (omega arith), lt-leb (length word) 5 h)
 
@@ -62,9 +62,6 @@ pub read_none : (word : List ℕ) → 1 ≤ length word → length word ≤ 5 �
 read_none word l h = record { near = omega arith; small = omega arith; left = id_fits word l h }
 
 module _ {word : List ℕ} {n i : ℕ} (r : Read word n i) where
-  pub read_room : i < 5 → n < 10000
-  read_room h = let p : 10 ^ i ≤ 10 ^ 4 = pow-le-pow_right {n = 10} (omega arith) {i = i} {j = 4} (omega arith) in omega (arith, r.small)
-
   pub read_on : i < length word → is_digit (get_or word i 0) ≡ true → Read word (10 * n + (get_or word i 0 - 48)) (i + 1)
   unfolding id_from number_from all
   read_on h is = record {
@@ -73,10 +70,10 @@ module _ {word : List ℕ} {n i : ℕ} (r : Read word n i) where
     left = rw (turn word (length word) refl i 0 h, is) at r.left;
   }
 
-  pub read_other : i < length word → is_digit (get_or word i 0) ≡ false → id_in word ≡ none
+  pub read_other : i < length word → is_digit (get_or word i 0) ≡ false → id_in word ≡ None
   unfolding id_from all
   read_other h is = sym (rw (turn word (length word) refl i 0 h, is) at r.left)
 
-  pub read_all : length word ≤ i → id_in word ≡ some (as_id n)
+  pub read_all : length word ≤ i → id_in word ≡ Some (as_id n)
   unfolding id_from number_from all
   read_all h = sym (rw (ended word (length word) refl i h) at r.left)

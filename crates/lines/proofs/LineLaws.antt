@@ -2,36 +2,34 @@
 use Prim.Native.Nat.{ℕ, ◌+◌, ◌*◌, ◌≤◌, ◌<◌}
 use native.Mathlib.Omega.{arith}
 use mathlib.Core.Path.{◌≡◌, refl, sym}
-use mathlib.Core.List.{List, [], ◌∷◌, ◌++◌, append-nil}
+use mathlib.Core.List.{List, [], ◌∷◌, ◌++◌}
 use lib.ListN.{length, drop, get_or, length-append}
 use lib.Seq.{append_snoc}
 use Rattle.laws.proofs.Walks.{turn, ended}
 use Rattle.lines.specs.Lines.{decimal, line}
 use Rattle.lines.proofs.Decimals.{few_digits}
 
-line_last : (x : ℕ) → line (x ∷ []) ≡ (decimal x ++ 10 ∷ []) ++ line []
+-- of no numbers there is no line
+pub line_none : (ns : List ℕ) → length ns ≡ 0 → line ns ≡ []
 unfolding line
-line_last x = sym (append-nil (decimal x ++ 10 ∷ []))
+line_none [] e = refl
+line_none (x ∷ xs) e = absurd (omega arith)
 
-line_front : (x y : ℕ) (zs : List ℕ) → line (x ∷ y ∷ zs) ≡ (decimal x ++ 32 ∷ []) ++ line (y ∷ zs)
+-- a number with one behind it
+line_front : (x : ℕ) (zs : List ℕ) (y : ℕ) → line (x ∷ (zs ++ y ∷ [])) ≡ (decimal x ++ 32 ∷ []) ++ line (zs ++ y ∷ [])
 unfolding line
-line_front x y zs = sym (append_snoc (decimal x) 32 (line (y ∷ zs)))
+line_front x [] y = sym (append_snoc (decimal x) 32 (line (y ∷ [])))
+line_front x (z ∷ zs) y = sym (append_snoc (decimal x) 32 (line (z ∷ (zs ++ y ∷ []))))
 
--- what is left of a line at a number: the number, a space or the line's end, and what is left behind it
-module _ (ns : List ℕ) (j : ℕ) (h : j < length ns) (end : ℕ) where
-  abbrev Next : Type 0
-  Next = line (drop j ns) ≡ (decimal (get_or ns j 0) ++ end ∷ []) ++ line (drop (j + 1) ns)
+-- what is left of a line whose last number is y, at number j of those before it, and behind all of these
+module _ (before : List ℕ) (j y : ℕ) where
+  pub line_on : j < length before
+      → line (drop j before ++ y ∷ []) ≡ (decimal (get_or before j 0) ++ 32 ∷ []) ++ line (drop (j + 1) before ++ y ∷ [])
+  line_on h = rw (turn before (length before) refl j 0 h) (line_front (get_or before j 0) (drop (j + 1) before) y)
 
-  pub line_on : j + 1 < length ns → end ≡ 32 → Next
-  line_on l e =
-      rw (turn ns (length ns) refl j 0 h, turn ns (length ns) refl (j + 1) 0 l, e) (line_front (get_or ns j 0) (get_or ns (j + 1) 0) (drop (j + 1 + 1) ns))
-
-  pub line_end : length ns ≤ j + 1 → end ≡ 10 → Next
-  line_end l e = rw (turn ns (length ns) refl j 0 h, ended ns (length ns) refl (j + 1) l, e) (line_last (get_or ns j 0))
-
-pub line_done : (ns : List ℕ) (j : ℕ) → length ns ≤ j → line (drop j ns) ≡ []
-unfolding line
-line_done ns j h = rw (ended ns (length ns) refl j h)
+  pub line_end : length before ≤ j → line (drop j before ++ y ∷ []) ≡ decimal y ++ 10 ∷ []
+  unfolding line
+  line_end h = rw (ended before (length before) refl j h)
 
 -- ---- a number and the byte behind it have at most 21 bytes
 

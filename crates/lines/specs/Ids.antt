@@ -1,9 +1,6 @@
 -- The id that a word names: one to five digits, in ASCII codes. Assumes nothing.
-use Rattle.std.specs.Prelude.{ℕ, ◌+◌, ◌-◌, ◌*◌, Bool, cond, ◌&&◌, List, [], ◌∷◌, leb, length}
-use Rattle.std.proofs.Math.Option.{Option, none, some}
+use Rattle.std.specs.Prelude.{ℕ, ◌+◌, ◌-◌, ◌*◌, Bool, cond, ◌&&◌, List, [], ◌∷◌, leb, length, Option, Some, None}
 use Rattle.laws.specs.Check.{all, between}
-use Rattle.lines.specs.declared.ids.IdWord.{IdWord}
-use Rattle.lines.specs.declared.ids.IdWord.TheVariants.{Id, Other}
 
 unfoldable pub is_digit : ℕ → Bool
 is_digit byte = between 48 57 byte
@@ -18,8 +15,4 @@ unfoldable pub as_id : ℕ → ℕ
 as_id n = cond (leb n 65535) n 0
 
 unfoldable pub id_in : List ℕ → Option ℕ
-id_in word = cond (between 1 5 (length word) && all is_digit word) (some (as_id (number_from 0 word))) none
-
-abbrev pub as_id_word : Option ℕ → IdWord
-as_id_word (some id) = Id id
-as_id_word none = Other
+id_in word = cond (between 1 5 (length word) && all is_digit word) (Some (as_id (number_from 0 word))) None

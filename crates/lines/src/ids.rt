@@ -1,44 +1,20 @@
 // The id that a word names.
 ghost use Rattle.std.specs.Prelude.{◌≡◌};
-ghost use Rattle.lines.specs.Ids.{is_digit, as_id, id_in, as_id_word};
+ghost use Rattle.lines.specs.Ids.{id_in};
 
 // An id, where the word is one to five digits; 0, which is no thing's, where these stand for more than 65535.
-#[derive(Clone, Copy)]
-pub enum IdWord {
-    Id(u16),
-    Other,
-}
-
-fn is_digit(byte: u8) -> bool
-    ensures { result ≡ is_digit byte }
+pub fn id_in(word: &[u8]) -> Option<u16>
+    ensures { result ≡ id_in word.now }
 {
-    (48 <= byte) & (byte <= 57)
-}
-
-fn as_id(n: u32) -> u16
-    ensures { result ≡ as_id n }
-{
-    if n <= 65535 { n as u16 } else { 0 }
-}
-
-pub fn id_in(word: &[u8]) -> IdWord
-    ensures { result ≡ as_id_word (id_in word.now) }
-{
-    if word.len() == 0 {
-        return IdWord::Other;
-    }
-    if 5 < word.len() {
-        return IdWord::Other;
+    if word.is_empty() || 5 < word.len() {
+        return None;
     }
     let mut n: u32 = 0;
-    let mut i: usize = 0;
-    while i < word.len() {
-        let byte = word[i];
-        if !is_digit(byte) {
-            return IdWord::Other;
+    for byte in word {
+        if !byte.is_ascii_digit() {
+            return None;
         }
-        n = 10 * n + (byte - 48) as u32;
-        i += 1;
+        n = 10 * n + (*byte - b'0') as u32;
     }
-    IdWord::Id(as_id(n))
+    Some(u16::try_from(n).unwrap_or(0))
 }

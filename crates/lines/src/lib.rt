@@ -8,28 +8,25 @@ ghost use Rattle.std.specs.Prelude.{ℕ, ◌≡◌, List, [], ◌∷◌, ◌++�
 ghost use Rattle.lines.specs.Lines.{decimal, line};
 ghost use Rattle.lines.specs.Put.{put_text};
 
-pub use ids::{IdWord, id_in};
-
-// The largest position. No buffer is longer, so from there on nothing is stored, and a position that stays there tells the same as one that goes on.
-const LARGEST: usize = 18446744073709551615;
+pub use ids::id_in;
 
 // ---- bytes
 
+// At the largest position nothing is stored, since no buffer is longer; so a position that stays there tells the same as one that goes on.
+#[tactic(auto, using(crate::proofs::PutLaws::put_one))]
 fn put_byte(out: &mut [u8], at: usize, byte: u8) -> usize
     ensures { ◌≡◌ {A = ℕ × List ℕ} (result, out.new) (put_text out.old at (byte ∷ [])) }
 {
     records::put1(out, at, byte);
-    if at < LARGEST { at + 1 } else { at }
+    at.saturating_add(1)
 }
 
 pub fn put_text(out: &mut [u8], at: usize, text: &[u8]) -> usize
     ensures { ◌≡◌ {A = ℕ × List ℕ} (result, out.new) (put_text out.old at text.now) }
 {
     let mut p = at;
-    let mut j: usize = 0;
-    while j < text.len() {
-        p = put_byte(out, p, text[j]);
-        j += 1;
+    for byte in text {
+        p = put_byte(out, p, *byte);
     }
     p
 }
@@ -40,10 +37,10 @@ pub fn put_decimal(out: &mut [u8], at: usize, n: u64) -> usize
     ensures { ◌≡◌ {A = ℕ × List ℕ} (result, out.new) (put_text out.old at (decimal n)) }
 {
     if n < 10 {
-        return put_byte(out, at, 48 + n as u8);
+        return put_byte(out, at, b'0' + n as u8);
     }
     let p = put_decimal(out, at, n / 10);
-    put_byte(out, p, 48 + (n % 10) as u8)
+    put_byte(out, p, b'0' + (n % 10) as u8)
 }
 
 // A number and the byte behind it.
@@ -58,12 +55,12 @@ pub fn put_number(out: &mut [u8], at: usize, n: u64, end: u8) -> usize
 pub fn put_line(out: &mut [u8], at: usize, numbers: &[u64]) -> usize
     ensures { ◌≡◌ {A = ℕ × List ℕ} (result, out.new) (put_text out.old at (line numbers.now)) }
 {
+    let Some((last, before)) = numbers.split_last() else {
+        return at;
+    };
     let mut p = at;
-    let mut j: usize = 0;
-    while j < numbers.len() {
-        let end = if j + 1 < numbers.len() { 32 } else { 10 };
-        p = put_number(out, p, numbers[j], end);
-        j += 1;
+    for number in before {
+        p = put_number(out, p, *number, b' ');
     }
-    p
+    put_number(out, p, *last, b'\n')
 }

@@ -1,18 +1,19 @@
 -- What the code's machine words come to: a shifted 1, what `|` and `^` make of two sets, and the count of a word's ones. Over plain numbers,
 -- so that a function's proof names no place of its context.
-use mathlib.Core.Path.{◌≡◌, sym, ap, ◌∙◌}
-use mathlib.Core.Bool.{true, cond}
+use mathlib.Core.Path.{◌≡◌, refl, sym, ap, ◌∙◌}
+use mathlib.Core.Bool.{cond}
 use Prim.Native.Nat.{ℕ, zero, suc, ◌+◌, ◌-◌, ◌*◌, ◌/◌, ◌%◌, ◌^◌, ◌≤◌, ◌<◌, min}
 use native.Mathlib.Nat.{one-mul, add_assoc, add_comm, min-eq_right, lt_of_lt_of_le}
 use native.Mathlib.Omega.{arith}
 use lib.Arith.{lt-one}
 use lib.Bits.{bit_or, bit_xor}
 use lib.Count.{ones, ones_step}
-use lib.Dec.{ltb, lit<}
-use borrow.Author.Tests.{lt-ltb, le-ltb}
+use lib.Dec.{eqb, ltb, leb, lit<}
+use borrow.Author.Tests.{lt-ltb, le-ltb, le-leb}
 use lib.Pow.{pow_pos, pow_mono, shl_exact}
-use Rattle.rights.specs.Sets.{has, single, enter_right, delete_right, all_rights, complement, within, count_to, count_rights}
-use Rattle.rights.proofs.Digits.{has_suc, first_digit}
+use Rattle.rights.specs.Numberings.{right, partner_of}
+use Rattle.rights.specs.Sets.{partner, has, single, enter_right, delete_right, all_rights, complement, within, count_to, count_rights}
+use Rattle.rights.proofs.Digits.{has_suc, first_digit, has_above}
 use Rattle.rights.proofs.Laws.{enter_or, delete_xor, complement_xor}
 
 shifted : (r w : ℕ) → r < w → (1 * 2 ^ r) % 2 ^ w ≡ 2 ^ r
@@ -21,7 +22,7 @@ shifted r w h = shl_exact 1 r w (lit< tt) (omega arith) ∙ one-mul (2 ^ r)
 pub shifted_pos : (r w : ℕ) → r < w → 0 < (1 * 2 ^ r) % 2 ^ w
 shifted_pos r w h = rw (shifted r w h) (pow_pos r)
 
--- ---- what `single`, `all` and `within` shift, within the word's width and beyond it
+-- ---- what `single`, `all` and `is_within` shift, within the word's width and beyond it
 
 pub single_word : (r : ℕ) → r < 64 → (1 * 2 ^ r) % 2 ^ 64 ≡ single r
 unfolding single
@@ -39,13 +40,22 @@ pub all_full : (n : ℕ) → 64 ≤ n → 2 ^ 64 - 1 ≡ all_rights n
 unfolding all_rights
 all_full n h = rw (min-eq_right h)
 
-pub within_word : (w m set : ℕ) → m < w → ltb set ((1 * 2 ^ m) % 2 ^ w) ≡ within m set
+pub within_word : (m set : ℕ) → m < 64 → ltb set ((1 * 2 ^ m) % 2 ^ 64) ≡ within m set
 unfolding within
-within_word w m set h = rw (shifted m w h)
+within_word m set h = rw (shifted m 64 h)
 
-pub within_full : (w m set : ℕ) → w ≤ m → set < 2 ^ w → true ≡ within m set
+pub within_full : (m set : ℕ) → 64 ≤ m → set < 2 ^ 64 → leb 64 m ≡ within m set
 unfolding within
-within_full w m set h l = sym (lt-ltb set (2 ^ m) (lt_of_lt_of_le l (pow_mono h)))
+within_full m set h l = rw (le-leb 64 m h) (sym (lt-ltb set (2 ^ m) (lt_of_lt_of_le l (pow_mono h))))
+
+-- ---- what `has_bit` shifts, within the word's width and beyond it
+
+pub has_word : (set r : ℕ) → eqb (set / 2 ^ r % 2) 1 ≡ has set r
+unfolding has
+has_word set r = refl
+
+pub has_none : (set r : ℕ) → 64 ≤ r → set < 2 ^ 64 → ltb r 64 ≡ has set r
+has_none set r h l = rw (le-ltb r 64 h) (sym (has_above 64 set r h l))
 
 -- ---- what `enter`, `delete` and `complement` compute from the set that a call gave them
 
@@ -77,3 +87,9 @@ count_ones (suc k) x h = ones_step x ∙ ap (λ (c : ℕ). x % 2 + c) (count_one
 pub count_word : (set : ℕ) → set < 2 ^ 64 → ones set ≡ count_rights set
 unfolding count_rights
 count_word set h = count_ones 64 set h
+
+-- ---- the partner
+
+pub partner_word : (n r sum : ℕ) → sum ≡ min (r + n) 255 → right sum ≡ partner_of n (right r)
+unfolding partner
+partner_word n r sum e = ap right e

@@ -6,36 +6,32 @@ ghost use Rattle.rights.specs.Sets.{has, single, enter_right, delete_right, all_
 ghost use Rattle.rights.specs.Numberings.{right_below, type_below, parameter_below, same_type, same_parameter, zero_right, zero_type, zero_parameter, right_byte, type_byte, parameter_byte, partner_of};
 
 // A right's number, a type's number, and a parameter's place in a command. None may stand where another belongs.
-#[derive(Clone, Copy)]
+#[derive(Clone, Copy, PartialEq, Eq, Debug)]
 pub struct Right(pub u8);
 
-#[derive(Clone, Copy)]
+#[derive(Clone, Copy, PartialEq, Eq, Debug)]
 pub struct ThingType(pub u8);
 
-#[derive(Clone, Copy)]
+#[derive(Clone, Copy, PartialEq, Eq, Debug)]
 pub struct Parameter(pub u8);
 
 // The rights in one cell: bit r for right r.
-#[derive(Clone, Copy)]
+#[derive(Clone, Copy, PartialEq, Eq, Debug)]
 pub struct RightSet(pub u64);
 
 // The types that make a thing a subject: bit t for type t.
-#[derive(Clone, Copy)]
+#[derive(Clone, Copy, PartialEq, Eq, Debug)]
 pub struct TypeSet(pub u16);
 
 impl Right {
     pub const LIMIT: u8 = 64;
 
     // The right that stands for this one's absence, where there are n rights.
+    #[tactic(auto, using(crate::proofs::Words::partner_word))]
     pub fn partner(self, n: u8) -> Right
         ensures { result ≡ partner_of n self }
     {
-        let r = self.0;
-        if n <= 255 - r {
-            Right(r + n)
-        } else {
-            Right(255)
-        }
+        Right(self.0.saturating_add(n))
     }
 
     // Whether it is one of the first n rights.
@@ -59,6 +55,7 @@ impl Right {
     }
 
     // The set of this right alone; a number that is no right's gives the empty set.
+    #[tactic(auto, using(crate::proofs::Words::single_word, crate::proofs::Words::single_none))]
     pub fn single(self) -> RightSet
         ensures { result.0 ≡ single self.0 }
     {
@@ -83,7 +80,7 @@ impl ThingType {
     pub fn is(self, other: ThingType) -> bool
         ensures { result ≡ same_type self other }
     {
-        self.0 == other.0
+        self == other
     }
 
     pub fn is_zero(self) -> bool
@@ -112,7 +109,7 @@ impl Parameter {
     pub fn is(self, other: Parameter) -> bool
         ensures { result ≡ same_parameter self other }
     {
-        self.0 == other.0
+        self == other
     }
 
     pub fn is_zero(self) -> bool
@@ -128,26 +125,39 @@ impl Parameter {
     }
 }
 
+// Whether bit i of a set's word is 1.
+#[tactic(auto, using(crate::proofs::Words::has_word, crate::proofs::Words::has_none))]
+fn has_bit(word: u64, i: u8) -> bool
+    ensures { result ≡ has word i }
+{
+    i < Right::LIMIT && (word >> i) % 2 == 1
+}
+
+// Whether a set's word has no bit from m on.
+#[tactic(auto, using(crate::proofs::Words::within_word, crate::proofs::Words::within_full))]
+fn is_within(word: u64, m: u8) -> bool
+    ensures { result ≡ within m word }
+{
+    Right::LIMIT <= m || word < (1u64 << m)
+}
+
 impl RightSet {
     // The set of all n rights; there are 64 at most.
+    #[tactic(auto, using(crate::proofs::Words::all_word, crate::proofs::Words::all_full, crate::proofs::Words::shifted_pos))]
     pub fn all(n: u8) -> RightSet
         ensures { result.0 ≡ all_rights n }
     {
         if n < Right::LIMIT {
             RightSet((1u64 << n) - 1)
         } else {
-            RightSet(18446744073709551615)
+            RightSet(u64::MAX)
         }
     }
 
     pub fn has(self, r: Right) -> bool
         ensures { result ≡ has self.0 r.0 }
     {
-        if r.0 < Right::LIMIT {
-            (self.0 >> r.0) % 2 == 1
-        } else {
-            false
-        }
+        has_bit(self.0, r.0)
     }
 
     pub fn is_empty(self) -> bool
@@ -156,6 +166,7 @@ impl RightSet {
         self.0 == 0
     }
 
+    #[tactic(auto, using(crate::proofs::Words::enter_word))]
     pub fn enter(self, r: Right) -> RightSet
         ensures { result.0 ≡ enter_right r.0 self.0 }
     {
@@ -163,6 +174,7 @@ impl RightSet {
         RightSet(self.0 | one.0)
     }
 
+    #[tactic(auto, using(crate::proofs::Words::delete_word))]
     pub fn delete(self, r: Right) -> RightSet
         ensures { result.0 ≡ delete_right r.0 self.0 }
     {
@@ -171,6 +183,7 @@ impl RightSet {
     }
 
     // The rights below n that this set lacks.
+    #[tactic(auto, using(crate::proofs::Words::complement_word))]
     pub fn complement(self, n: u8) -> RightSet
         ensures { result.0 ≡ complement n self.0 }
     {
@@ -182,18 +195,15 @@ impl RightSet {
     pub fn within(self, n: u8) -> bool
         ensures { result ≡ within n self.0 }
     {
-        if n < Right::LIMIT {
-            self.0 < (1u64 << n)
-        } else {
-            true
-        }
+        is_within(self.0, n)
     }
 
     // How many rights it holds.
+    #[tactic(auto, using(crate::proofs::Words::count_word))]
     pub fn count(self) -> u32
         ensures { result ≡ count_rights self.0 }
     {
-        u64::count_ones(self.0)
+        self.0.count_ones()
     }
 }
 
@@ -201,21 +211,13 @@ impl TypeSet {
     pub fn has(self, t: ThingType) -> bool
         ensures { result ≡ has self.0 t.0 }
     {
-        if t.0 < ThingType::LIMIT {
-            (self.0 >> t.0) % 2 == 1
-        } else {
-            false
-        }
+        has_bit(u64::from(self.0), t.0)
     }
 
     // Whether no type of number m or above is in it.
     pub fn within(self, m: u8) -> bool
         ensures { result ≡ within m self.0 }
     {
-        if m < ThingType::LIMIT {
-            self.0 < (1u16 << m)
-        } else {
-            true
-        }
+        is_within(u64::from(self.0), m)
     }
 }

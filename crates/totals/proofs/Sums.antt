@@ -1,6 +1,6 @@
--- Laws of sums: over a list, place by place, turn by turn and row by row; and over all ids up to a number, which comes to the sum over the
+-- Laws of sums: over a list, place by place and row by row; and over all ids up to a number, which comes to the sum over the
 -- seats. `sum_ids` is opened only over a general number of ids, never at 65535: that would take 65535 steps. Assumes nothing.
-use Prim.Native.Nat.{ℕ, zero, suc, ◌+◌, ◌*◌, ◌≤◌, ◌<◌}
+use Prim.Native.Nat.{ℕ, zero, suc, ◌+◌, ◌*◌, ◌^◌, ◌≤◌, ◌<◌}
 use mathlib.Core.Path.{◌≡◌, refl, sym, ap, ◌∙◌}
 use mathlib.Core.Logic.{◌≢◌}
 use mathlib.Core.Bool.{Bool, true, false, not, cond, ◌||◌}
@@ -11,16 +11,19 @@ use native.Mathlib.Omega.{arith}
 use lib.Dec.{T, eqb}
 use lib.ListN.{length, take, drop, get_or, length-drop, take-append-drop}
 use lib.Seq.{drop-drop}
-use borrow.Author.Tests.{eq-eqb, ne_eqb, eqb-true, eqb-false}
+use Rattle.std.specs.Prelude.{nat_eq, sum_by, count_by}
+use Rattle.std.proofs.lemmas.List.Recursion.{is_sum_by, is_count_by}
+use Rattle.std.proofs.lemmas.List.Sums.{sum_by-le}
+use borrow.Author.Tests.{eq-eqb, eqb-true, eqb-false}
 use Rattle.rights.specs.Sets.{has, count_to, count_rights}
 use Rattle.rights.proofs.Digits.{has_zero}
 use Rattle.model.specs.Papers.{count_ids}
-use Rattle.model.specs.Seats.{among, known}
-use Rattle.model.specs.Accepted.{apart}
+use Rattle.model.specs.Seats.{Matrix, among, known}
+use Rattle.model.specs.Accepted.{apart, accepted_matrix}
+use Rattle.model.specs.declared.Head.{Head}
 use Rattle.model.specs.declared.Things.{Things}
-use Rattle.laws.proofs.Bools.{is_false, and_right, eqb_not, one_mono}
-use Rattle.model.proofs.HeldLaws.{first_apart}
-use Rattle.laws.proofs.Walks.{turn, ended}
+use Rattle.laws.proofs.Bools.{from_true, is_false, and_right, eqb_not, one_mono}
+use Rattle.model.proofs.HeldLaws.{held, first_apart}
 use Rattle.totals.specs.Totals.{sum_ids, filled, sum_of}
 
 -- ---- what is counted of one cell
@@ -28,10 +31,6 @@ use Rattle.totals.specs.Totals.{sum_ids, filled, sum_of}
 pub filled_none : (x : ℕ) → x ≡ 0 → filled x ≡ 0
 unfolding filled
 filled_none x e = rw e
-
-pub filled_one : (x : ℕ) → x ≢ 0 → filled x ≡ 1
-unfolding filled
-filled_one x n = rw (ne_eqb x 0 n)
 
 count_none : (k : ℕ) → count_to k 0 ≡ 0
 unfolding count_to
@@ -51,15 +50,30 @@ pub rights_le : (set : ℕ) → count_rights set ≤ 64
 unfolding count_rights
 rights_le set = count_le 64 set
 
--- ---- over a list: one turn of a loop, and the end
-module _ (f : ℕ → ℕ) (l : List ℕ) (n : ℕ) (full : length l ≡ n) (i : ℕ) where
-  pub sum_turn : i < n → sum_of f (drop i l) ≡ f (get_or l i 0) + sum_of f (drop (i + 1) l)
-  unfolding sum_of
-  sum_turn h = rw (turn l n full i 0 h)
+-- ---- what the functions count: the sum over a list, in std's words; of an accepted matrix it fits
+summed : (f : ℕ → ℕ) (xs : List ℕ) → sum_of f xs ≡ sum_by f xs
+unfolding sum_of
+summed f xs = is_sum_by (sum_of f) f refl (λ y ys. refl) xs
 
-  pub sum_end : n ≤ i → sum_of f (drop i l) ≡ 0
-  unfolding sum_of
-  sum_end h = rw (ended l n full i h)
+counted : (xs : List ℕ) → sum_of filled xs ≡ count_by (λ x. not (nat_eq x 0)) xs
+unfolding sum_of filled
+counted xs = is_count_by (sum_of filled) (λ x. not (nat_eq x 0)) refl (λ y ys. one (nat_eq y 0) (sum_of filled ys)) xs
+  where
+    one : (b : Bool) (n : ℕ) → cond b 0 1 + n ≡ cond (not b) (1 + n) n
+    one true n = omega arith
+    one false n = refl
+
+pub is_counted : (n : ℕ) (xs : List ℕ) → n ≡ count_by (λ x. not (nat_eq x 0)) xs → n ≡ sum_of filled xs
+is_counted n xs e = e ∙ sym (counted xs)
+
+pub is_summed : (f : ℕ → ℕ) (n : ℕ) (xs : List ℕ) → n ≡ sum_by f xs → n ≡ sum_of f xs
+is_summed f n xs e = e ∙ sym (summed f xs)
+
+pub cells_room : (s : Head) (m : Matrix) → true ≡ accepted_matrix s m → length m.cells ≡ 2304
+cells_room s m e = (held s m (from_true (sym e))).cells.room
+
+pub rights_fit : (xs : List ℕ) → length xs ≡ 2304 → sum_by count_rights xs < 2 ^ 32
+rights_fit xs e = omega (arith, sum_by-le count_rights 64 xs (λ k d h. rights_le (get_or xs k d)))
 
 -- ---- two lists whose elements give the same, place by place; and one against the rows of another
 module _ (f : ℕ → ℕ) where

@@ -7,8 +7,7 @@ use Rattle.model.specs.Seats.{Matrix}
 use Rattle.model.specs.Accepted.{accepted_scheme, accepted_matrix}
 use Rattle.model.specs.declared.Scheme.{Scheme}
 use Rattle.records.specs.Told.{Told, told}
-use Rattle.totals.specs.declared.answers.Totals.{Totals}
-use Rattle.totals.specs.declared.answers.Totals.TheVariants.{Counted, Refused}
+use Rattle.totals.specs.Outcome.{Outcome, Counted, Refused}
 
 -- ---- on paper: over all ids
 
@@ -23,7 +22,7 @@ over_cells f m = sum_ids 65535 (λ x. sum_ids 65535 (λ y. f (m.rights x y)))
 unfoldable pub filled : ℕ → ℕ
 filled set = cond (eqb set 0) 0 1
 
-unfoldable pub paper_totals : State → Totals
+unfoldable pub paper_totals : State → Outcome
 paper_totals m = Counted (how_many m.things) (over_cells filled m) (over_cells count_rights m)
 
 -- ---- in memory: over the seats, and over the list of cells
@@ -32,14 +31,14 @@ unfoldable pub sum_of : (ℕ → ℕ) → List ℕ → ℕ
 sum_of f [] = 0
 sum_of f (x ∷ xs) = f x + sum_of f xs
 
-unfoldable pub memory_totals : Matrix → Totals
+unfoldable pub memory_totals : Matrix → Outcome
 memory_totals m = Counted (sum_of filled m.things.ids) (sum_of filled m.cells) (sum_of count_rights m.cells)
 
 -- 27 before all
-unfoldable pub totals_of : Scheme → Matrix → Totals
+unfoldable pub totals_of : Scheme → Matrix → Outcome
 totals_of s m = cond (accepted_scheme s && accepted_matrix s.head m) (memory_totals m) (Refused 27)
 
 -- what that tells: the three numbers; or the number of the refusal
-abbrev pub of_totals : Totals → Told
+abbrev pub of_totals : Outcome → Told
 of_totals (Counted things cells entries) = told 0 (things ∷ cells ∷ entries ∷ [])
 of_totals (Refused k) = told k []

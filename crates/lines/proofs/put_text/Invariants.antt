@@ -1,12 +1,8 @@
--- `lines::put_text` meets its contract: after j turns, what is left to put is what remains of the text.
+-- `lines::put_text` meets its contract: what is left to put is what remains of the text.
 -- Assumes nothing.
-use Prim.Native.Nat.{◌-◌, ◌≤◌}
-use lib.ListN.{length, drop}
+use lib.ListN.{drop}
 use Rattle.lines.proofs.PutLaws.{Left}
 use Rattle.lines.proofs.put_text.Given as goal
 
-abbrev pub invariant-loop-j : goal.invariant-loop-j
-invariant-loop-j l = (l.j ≤ length l.text) × Left l.initial.out l.at l.text l.out l.p (drop l.j l.text)
-
-abbrev pub decreases-loop-j : goal.decreases-loop-j
-decreases-loop-j l = length l.text - l.j
+abbrev pub invariant-loop-byte : goal.invariant-loop-byte
+invariant-loop-byte l = Left l.initial.out l.at l.text l.out l.p (drop l.byte-index l.text)

@@ -1,49 +1,30 @@
--- `lines::id_in` meets its contract: after i turns what was read are digits that stand for n, and what is left decides the id.
+-- `lines::id_in` meets its contract: what was read are digits that stand for n, and what is left decides the id.
 -- Assumes nothing.
 use native.Mathlib.Omega.{arith}
-use mathlib.Core.Bool.{true}
-use mathlib.Core.Option.{some}
-use mathlib.Core.Path.{◌≡◌, sym, ap, ◌∙◌}
-use lib.ListN.{get_or}
-use borrow.Author.Tests.{not-true, not-false}
-use Rattle.lines.specs.Ids.{is_digit, as_id_word}
-use Rattle.lines.proofs.IdLaws.{digit_low, digit_high, id_empty, id_long, read_none, read_room, read_on, read_other, read_all}
+use mathlib.Core.Path.{sym, ap, ◌∙◌}
+use borrow.Author.Tests.{eqb-true, eqb-false}
+use Rattle.std.specs.Prelude.{Some}
+use Rattle.laws.specs.Check.{between}
+use Rattle.lines.specs.Ids.{is_digit}
+use Rattle.lines.proofs.IdLaws.{id_empty, id_long, id_of, read_none, read_on, read_other, read_all}
 use Rattle.lines.proofs.ids.id_in.Goals as goal
-use Rattle.lines.proofs.ids.id_in.Goals.{Else-not-is_digit}
+use Rattle.lines.proofs.ids.id_in.Goals.{then-is_empty-via-then-is_empty, then-is_empty-via-else-is_empty+then-word-gt5}
 
-pub returns-then-word-eq0 : goal.returns-then-word-eq0
-returns-then-word-eq0 c = ap as_id_word (sym (id_empty _ c.if-word-eq0.true))
+pub returns-then-is_empty : goal.returns-then-is_empty
+returns-then-is_empty c =
+    elim c.then-is_empty.branch [ then-is_empty-via-then-is_empty w ↦ sym (id_empty _ (eqb-true _ 0 (sym w.if-is_empty.ensures))) | then-is_empty-via-else-is_empty+then-word-gt5 w ↦ sym (id_long _ w.if-word-gt5.true) ]
 
-pub returns-then-word-gt5 : goal.returns-then-word-gt5
-returns-then-word-gt5 c = ap as_id_word (sym (id_long c.args.word.now (omega arith)))
+pub loop-byte-init : goal.loop-byte-init
+loop-byte-init c = let some = eqb-false _ 0 (sym c.if-is_empty.ensures) in read_none _ (omega (arith, some)) (omega arith)
 
-pub loop-i-init : goal.loop-i-init
-loop-i-init c = read_none _ (omega arith) (omega arith)
+pub returns-then-not-is_ascii_digit : goal.returns-then-not-is_ascii_digit
+unfolding is_digit between
+returns-then-not-is_ascii_digit c =
+    sym (read_other c.loop-byte.invariant c.loop-byte-test.true (sym c.if-not-is_ascii_digit.ensures.value))
 
--- the byte was a digit
-digit : (c : Else-not-is_digit) →
-    is_digit (get_or c.args.word.now c.loop-i.i 0) ≡ true
-digit c = sym c.is_digit.ensures ∙ not-false _ c.if-not-is_digit.false-raw
-
-pub returns-then-not-is_digit : goal.returns-then-not-is_digit
-returns-then-not-is_digit c =
-    let e = sym c.is_digit.ensures ∙ not-true _ c.if-not-is_digit.true-raw in
-    ap as_id_word (sym (read_other c.loop-i.invariant c.loop-i-test.true e))
-
-pub overflow_mul-n : goal.overflow_mul-n
-overflow_mul-n c = omega (arith, read_room c.loop-i.invariant (omega arith))
-
-pub overflow_sub-n : goal.overflow_sub-n
-overflow_sub-n c = digit_low _ (digit c)
-
-pub overflow_cast-n : goal.overflow_cast-n
-overflow_cast-n c = omega (arith, digit_high _ (digit c))
-
-pub overflow_add-n : goal.overflow_add-n
-overflow_add-n c = omega (arith, read_room c.loop-i.invariant (omega arith), digit_high _ (digit c))
-
-pub loop-i-preserved : goal.loop-i-preserved
-loop-i-preserved c = read_on c.loop-i.invariant c.loop-i-test.true (digit c)
+pub loop-byte-preserved : goal.loop-byte-preserved
+unfolding is_digit between
+loop-byte-preserved c = read_on c.loop-byte.invariant c.loop-byte-test.true (sym c.if-not-is_ascii_digit.ensures.value)
 
 pub returns : goal.returns
-returns c = ap as_id_word (ap some c.as_id.ensures ∙ sym (read_all c.loop-i.invariant c.loop-i-test.false))
+returns c = ap Some (c.unwrap_or.ensures ∙ id_of _ _ c.try_from.ensures) ∙ sym (read_all c.loop-byte.invariant c.loop-byte-test.false)
