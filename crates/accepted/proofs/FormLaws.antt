@@ -1,95 +1,75 @@
--- The used part of an array, whose stated count may be above its places: what stands at a place of it, and a walk over it.
+-- What the library's methods answer on the places of a list, in the model's words.
 -- Assumes nothing.
-use Prim.Native.Nat.{ℕ, min, ◌<◌}
+use Prim.Native.Nat.{ℕ, ◌+◌, ◌<◌}
 use mathlib.Core.Path.{◌≡◌, refl, sym, ap, ◌∙◌}
-use mathlib.Core.Bool.{Bool, true, false, not, ◌&&◌, ◌||◌}
+use mathlib.Core.Bool.{Bool, true, false, not, ◌&&◌, and-true, and_assoc}
 use mathlib.Core.List.{List, [], ◌∷◌}
-use native.Mathlib.Decide.{dec_lt}
 use native.Mathlib.Omega.{arith}
-use borrow.Author.Tests.{lt-ltb, le-ltb, ltb-true, ltb-false}
-use lib.Dec.{eqb, ltb}
-use lib.ListN.{length, take, get_or, length-take, get_or-eq_default}
+use borrow.Author.Tests.{eq-eqb}
+use lib.ListN.{length, take, drop, get_or, length-take}
 use lib.Seq.{get_or-take}
-use Rattle.laws.specs.Check.{any, all}
-use Rattle.laws.proofs.Walks.{Walk, start, take_least}
-use Rattle.rights.specs.Numberings.{same_parameter}
+use Rattle.std.specs.List.{list_all, list_any, fold}
+use Rattle.laws.specs.Check.{any, all, padded, must, first_fault, ◌or_else◌}
+use Rattle.laws.proofs.Walks.{any_reverse, one_more}
 use Rattle.rights.specs.declared.Parameter.{Parameter}
-use Rattle.model.specs.Scheme.{is_create, is_destroy, creates, destroys}
-use Rattle.model.specs.Accepted.{group}
-use Rattle.model.specs.declared.Code.{Code}
-use Rattle.model.specs.declared.Code.TheVariants.{Enter, Delete, Create, Destroy}
+use Rattle.model.specs.Scheme.{tests_of, names, creates, destroys, creatable, destroyable}
+use Rattle.model.specs.declared.Tests.{Tests}
 use Rattle.model.specs.declared.Operation.{Operation}
 use Rattle.model.specs.declared.Operations.{Operations}
 use Rattle.accepted.specs.Answers.{before}
-use Rattle.accepted.specs.Inner.Parts.{in_group}
 
-module _ {A : Type 0} (l : List A) (n i : ℕ) where
-  pub used_below : (m : ℕ) → length l ≡ m → (ltb i n && ltb i m) ≡ ltb i (length (take n l))
-  used_below m e = by (dec_lt i n) (dec_lt i m)
-    where
-      by : Dec (i < n) → Dec (i < m) → (ltb i n && ltb i m) ≡ ltb i (length (take n l))
-      by (yes a) (yes b) = rw (lt-ltb i n a, lt-ltb i m b, length-take n l, lt-ltb i (min n (length l)) (omega arith))
-      by (yes a) (no b) = rw (lt-ltb i n a, le-ltb i m (omega arith), length-take n l, le-ltb i (min n (length l)) (omega arith))
-      by (no a) b = rw (le-ltb i n (omega arith), length-take n l, le-ltb i (min n (length l)) (omega arith))
+-- ---- `all` and `any`
+pub all_is : {A : Type 0} (f : A → Bool) (l : List A) → all f l ≡ list_all f l
+unfolding all
+all_is f [] = refl
+all_is f (x ∷ xs) = rw (all_is f xs)
 
-  module _ (t : ltb i (length (take n l)) ≡ true) where
-    pub in_array : i < length l
-    in_array = omega (arith, ltb-true i (length (take n l)) t, length-take n l)
-
-    pub used_at : (d : A) → get_or l i d ≡ get_or (take n l) i d
-    used_at d = sym (get_or-take n l i d (omega (arith, ltb-true i (length (take n l)) t, length-take n l)))
-
-  pub past : (d : A) → ltb i (length (take n l)) ≡ false → d ≡ get_or (take n l) i d
-  past d f = sym (get_or-eq_default (take n l) d {n = i} (ltb-false _ _ f))
-
--- ---- a walk over no more than there is
-pub begin : {A B : Type 0} {F : ℕ → List A → B} {l : List A} {w : B} {k : ℕ} (m n : ℕ) → length l ≡ m → k ≡ min n m → F 0 (take n l) ≡ w → Walk F l k w 0
-begin {F} {l} m n e h f = start m e (omega arith) (ap (F 0) (rw h (take_least l m n e)) ∙ f)
-
-pub none_any : {A : Type 0} (f : A → Bool) (l : List A) → all (λ x. not (f x)) l ≡ not (any f l)
-unfolding any all
-none_any f [] = refl
-none_any f (x ∷ xs) = go (f x) (none_any f xs)
-  where
-    go : (b : Bool) → all (λ x. not (f x)) xs ≡ not (any f xs) → (not b && all (λ x. not (f x)) xs) ≡ not (b || any f xs)
-    go true e = refl
-    go false e = e
-
-any_same : {A : Type 0} (f g : A → Bool) → ((x : A) → f x ≡ g x) → (l : List A) → any f l ≡ any g l
+pub any_is : {A : Type 0} (f : A → Bool) (l : List A) → any f l ≡ list_any f l
 unfolding any
-any_same f g h [] = refl
-any_same f g h (x ∷ xs) = rw (h x, any_same f g h xs)
+any_is f [] = refl
+any_is f (x ∷ xs) = rw (any_is f xs)
 
--- the group of creates, and that of destroys, has one code
-module _ (p : Parameter) where
-  pub creates_group : (l : List Operation) → any (in_group 0 p) l ≡ any (creates p) l
-  unfolding in_group creates
-  creates_group = any_same (in_group 0 p) (creates p) (λ o. ap (λ (b : Bool). b && same_parameter o.row p) (by o.code))
-    where
-      by : (c : Code) → eqb (group c) 0 ≡ is_create c
-      by Enter = refl
-      by Delete = refl
-      by Create = refl
-      by Destroy = refl
+-- ---- none of those before, which `before` has the last first
+module _ (o : Operations) (n : ℕ) (p : Parameter) (s : Bool) where
+  pub not_destroyed : s ≡ list_any (destroys p) (take n o.list) → not s ≡ destroyable (before o n) p
+  unfolding destroyable
+  not_destroyed e = ap not (e ∙ sym (any_is (destroys p) (take n o.list)) ∙ any_reverse (destroys p) (take n o.list))
 
-  pub destroys_group : (l : List Operation) → any (in_group 2 p) l ≡ any (destroys p) l
-  unfolding in_group destroys
-  destroys_group = any_same (in_group 2 p) (destroys p) (λ o. ap (λ (b : Bool). b && same_parameter o.row p) (by o.code))
-    where
-      by : (c : Code) → eqb (group c) 2 ≡ is_destroy c
-      by Enter = refl
-      by Delete = refl
-      by Create = refl
-      by Destroy = refl
+  pub not_created : (t : Tests) (r : Bool) → r ≡ list_any (names p) (tests_of t) → s ≡ list_any (creates p) (take n o.list)
+      → (not r && not s) ≡ creatable (tests_of t) (before o n) p
+  unfolding creatable
+  not_created t r e f =
+      rw (e ∙ sym (any_is (names p) (tests_of t)), f ∙ sym (any_is (creates p) (take n o.list)) ∙ any_reverse (creates p) (take n o.list))
 
--- the first operations, of which there are no more than the array has
-pub before_least : (o : Operations) (k n : ℕ) → length o.list ≡ 32 → k ≡ min n 32 → before o k ≡ before o n
-before_least o k n e h = rw (h, take_least o.list 32 n e)
+-- ---- one of those in use more
+pub next_before : (o : Operations) (n i : ℕ) (d : Operation) → i < length (take n o.list) → before o (i + 1) ≡ get_or (take n o.list) i d ∷ before o i
+next_before o n i d h =
+    let k : i < n = omega (arith, length-take n o.list) in
+    rw (get_or-take n o.list i d k) (one_more o.list i d (omega (arith, length-take n o.list)))
 
--- ---- a conjunction that stops at the first that doesn't hold
-module _ {a r : Bool} (x y : Bool) (e : a ≡ x) where
-  pub and_on : a ≡ true → (q : Bool) → r ≡ q → q ≡ y → r ≡ (x && y)
-  and_on t q f g = rw (sym e ∙ t) (f ∙ g)
+-- ---- zeros behind the used places, told without an early exit
+module _ {A : Type 0} (zero? : A → Bool) where
+  so_far : (b : Bool) (l : List A) → fold (λ a x. a && zero? x) b l ≡ (b && all zero? l)
+  unfolding all
+  so_far b [] = sym (and-true b)
+  so_far b (x ∷ xs) = so_far (b && zero? x) xs ∙ and_assoc b (zero? x) _
 
-  pub and_out : a ≡ false → r ≡ a → r ≡ (x && y)
-  and_out t f = rw (sym e ∙ t) (f ∙ t)
+  pub zeros : (many count : ℕ) (l : List A) (b : Bool) → length l ≡ many → b ≡ fold (λ a x. a && zero? x) true (drop count l) → b ≡ padded zero? many count l
+  unfolding padded
+  zeros many count l b e f = f ∙ so_far true (drop count l) ∙ rw (eq-eqb (length l) many e)
+
+-- ---- the places in use, and those behind them
+pub used_then_zeros : {A : Type 0} (f zero? : A → Bool) (many count : ℕ) (l : List A) → length l ≡ many → (r s : Bool)
+    → r ≡ list_all f (take count l) → s ≡ list_all zero? (drop count l) → (r && s) ≡ (all f (take count l) && padded zero? many count l)
+unfolding padded
+used_then_zeros f zero? many count l e r s g h = rw (g, h, all_is, all_is, eq-eqb (length l) many e)
+
+-- ---- the first fault, where all have the same
+pub same_fault : {A : Type 0} (f : A → Bool) (k : ℕ) (l : List A) → first_fault (λ x. must (f x) k) l ≡ must (list_all f l) k
+unfolding must first_fault ◌or_else◌
+same_fault f k [] = refl
+same_fault f k (x ∷ xs) = go (f x) (same_fault f k xs)
+  where
+    go : (b : Bool) → first_fault (λ x. must (f x) k) xs ≡ must (list_all f xs) k → (must b k or_else first_fault (λ x. must (f x) k) xs) ≡ must (b && list_all f xs) k
+    go true e = e
+    go false e = refl

@@ -7,7 +7,6 @@ mod form;
 mod padding;
 mod scheme;
 
-pub use checked::Checked;
 pub use command::command_fault;
 pub use form::{creatable, destroyable, group_of, is_create, last_group, type_at};
 pub use scheme::{command_accepted, head_accepted, scheme_accepted};

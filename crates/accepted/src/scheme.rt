@@ -1,72 +1,58 @@
 // What is accepted as a scheme: its head, its commands, and zeros in the unused places.
-ghost use Rattle.std.specs.Prelude.{◌≡◌, cond, ◌&&◌};
+ghost use Rattle.std.specs.Prelude.{◌≡◌, ◌&&◌};
 ghost use Rattle.laws.specs.Check.{all, padded};
 ghost use Rattle.model.specs.Scheme.{commands_of};
 ghost use Rattle.model.specs.Accepted.{head_fault, accepted_head, zero_command, accepted_command, accepted_scheme};
 ghost use Rattle.accepted.specs.Answers.{as_checked};
 
-use crate::checked::{Checked, between};
+use crate::checked::{between, must};
 use crate::command::command_fault;
 use crate::padding::{padded_command, zero_command};
+use faults::Fault;
 use model::{Command, Head, Scheme};
 use rights::{Right, ThingType};
 
-fn head_fault(h: Head) -> Checked
+#[tactic(auto, using(crate::proofs::SchemeLaws::checks), unfolding(model::specs::Accepted::head_fault, faults::specs::Numbers::fault_of))]
+fn head_fault(h: Head) -> Result<(), Fault>
     ensures { result ≡ as_checked (head_fault h) }
 {
-    Checked::must(between(1, Right::LIMIT, h.rights), 4)
-        .then_must(between(1, ThingType::LIMIT, h.types), 4)
-        .then_must(h.subjects.within(h.types), 6)
-        .then_must(between(1, Scheme::LIMIT, h.count), 4)
+    must(between(1, Right::LIMIT, h.rights), Fault::Count)?;
+    must(between(1, ThingType::LIMIT, h.types), Fault::Count)?;
+    must(h.subjects.within(h.types), Fault::Form)?;
+    must(between(1, Scheme::LIMIT, h.count), Fault::Count)
 }
 
+#[tactic(auto, using(crate::proofs::SchemeLaws::tells))]
 pub fn head_accepted(h: Head) -> bool
     ensures { result ≡ accepted_head h }
 {
-    let Checked::Fine = head_fault(h) else {
-        return false;
-    };
-    true
+    head_fault(h).is_ok()
 }
 
+#[tactic(auto, using(crate::proofs::SchemeLaws::tells), unfolding(model::specs::Accepted::accepted_command))]
 pub fn command_accepted(h: Head, c: Command) -> bool
     ensures { result ≡ accepted_command h c }
 {
-    let Checked::Fine = command_fault(h, c) else {
-        return false;
-    };
-    padded_command(c)
+    command_fault(h, c).is_ok() && padded_command(c)
 }
 
-// What stands at a place for a command: one that is accepted where it is in use, zeros where it isn't.
-fn place_accepted(h: Head, used: bool, c: Command) -> bool
-    ensures { result ≡ cond used (accepted_command h c) (zero_command c) }
-{
-    if used {
-        command_accepted(h, c)
-    } else {
-        zero_command(c)
-    }
-}
-
+// The commands in use are accepted, and zeros stand in the places behind them.
 fn commands_accepted(s: Scheme) -> bool
     ensures { result ≡ (all (accepted_command s.head) (commands_of s) && padded zero_command 32 s.head.count s.commands) }
 {
     let n = s.head.count as usize;
-    let mut fine = true;
-    let mut i: usize = 0;
-    while i < Scheme::PLACES {
-        fine = fine & place_accepted(s.head, i < n, s.commands[i]);
-        i += 1;
-    }
-    fine
+    let used = s
+        .commands
+        .iter()
+        .take(n)
+        .all(|c| command_accepted(s.head, *c));
+    let unused = s.commands.iter().skip(n).all(|c| zero_command(*c));
+    used & unused
 }
 
+#[tactic(auto, unfolding(model::specs::Accepted::accepted_scheme))]
 pub fn scheme_accepted(s: Scheme) -> bool
     ensures { result ≡ accepted_scheme s }
 {
-    if !head_accepted(s.head) {
-        return false;
-    }
-    commands_accepted(s)
+    head_accepted(s.head) && commands_accepted(s)
 }

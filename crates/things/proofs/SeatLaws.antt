@@ -1,45 +1,60 @@
--- The search for a seat: what is left to look at decides it. And one array copied into another.
+-- The search for a seat, a thing put past the last seat, and one array copied into another.
 -- Assumes nothing.
-use Prim.Native.Nat.{ℕ, ◌+◌, ◌≤◌, ◌<◌}
-use mathlib.Core.Path.{◌≡◌, ap, ◌∙◌}
-use mathlib.Core.List.{List, [], ◌∷◌, append-nil}
-use native.Mathlib.Nat.{zero-add}
+use Prim.Native.Nat.{ℕ, suc, ◌-◌, min, ◌≤◌, ◌<◌}
+use mathlib.Core.Path.{◌≡◌, refl, sym, ap, ◌∙◌}
+use mathlib.Core.List.{List, [], ◌∷◌, ◌++◌, append-nil}
+use native.Mathlib.Decide.{dec_lt}
+use native.Mathlib.Nat.{zero-add, add_comm, sub-zero}
 use native.Mathlib.Numerals.{add-one}
 use native.Mathlib.Omega.{arith}
-use lib.ListN.{length, drop, get_or, set, drop_of_length-le}
-use lib.Seq.{sets, sets-eq, drop-cons, set_out}
-use borrow.Author.Tests.{eq-eqb, ne_eqb}
+use lib.Dec.{eqb}
+use lib.ListN.{length, take, drop, set, length-take, length-set, drop_of_length-le}
+use lib.Seq.{sets, sets-eq, set_out, take_all}
+use Rattle.std.specs.Prelude.{Option}
+use Rattle.std.specs.List.{position, position_or_len}
+use Rattle.std.specs.Option.{unwrap_or}
+use Rattle.std.proofs.lemmas.Grind.{common_steps}
+use Rattle.std.proofs.lemmas.List.Sums.{prefix_len-le-length}
+use Rattle.std.proofs.lemmas.List.Recursion.{is_position_or_len}
+use Rattle.laws.proofs.Walks.{long, take_least}
 use Rattle.model.specs.Seats.{find}
 
-abbrev pub seat_from : ℕ → ℕ → List ℕ → ℕ
-seat_from x i xs = i + find xs x
+-- ---- a thing put past the last seat changes none
+pub ruleset seats = (set_out, long)
 
-module _ (x i y : ℕ) where
-  pub seat_on : (y ≡ x → ⊥) → (xs : List ℕ) → seat_from x (i + 1) xs ≡ seat_from x i (y ∷ xs)
-  unfolding find
-  seat_on n xs = rw (ne_eqb y x n) (omega arith)
-
-  pub seat_here : y ≡ x → (xs : List ℕ) → i ≡ seat_from x i (y ∷ xs)
-  unfolding find
-  seat_here e xs = rw (eq-eqb y x e) (omega arith)
-
-pub seat_none : (x i : ℕ) → i ≡ seat_from x i []
+-- ---- the place of the first with an id, or how many are looked at
+found : (xs : List ℕ) (x most : ℕ) → length xs ≡ most → unwrap_or (position (λ y. eqb y x) xs) most ≡ find xs x
 unfolding find
-seat_none x i = omega arith
+found xs x most l =
+    let e : find xs x ≡ position_or_len (λ y. eqb y x) xs = is_position_or_len (λ l. find l x) (λ y. eqb y x) refl (λ y ys. rw (add_comm 1) (rw add-one refl)) xs in
+    let h : position_or_len (λ y. eqb y x) xs ≤ length xs = prefix_len-le-length _ xs in
+    grind (arith, common_steps)
+
+module _ (ids : List ℕ) (n most x r : ℕ) (o : Option ℕ) where
+  pub found_in : length ids ≡ 48 → most ≡ min n 48 → o ≡ position (λ y. eqb y x) (take most ids) → r ≡ unwrap_or o most → r ≡ find (take n ids) x
+  found_in l m e f =
+      let g : unwrap_or o most ≡ find (take most ids) x = rw e (found (take most ids) x most (omega (arith, length-take most ids))) in
+      f ∙ g ∙ ap (λ (xs : List ℕ). find xs x) (rw m (take_least ids 48 n l))
 
 -- ---- one array copied into another, as far as both go
-module _ {A : Type 0} (to from : List A) (k : ℕ) (d : A) where
-  copied : k < length from → sets to k (drop k from) ≡ sets (set to k (get_or from k d)) (k + 1) (drop (k + 1) from)
-  copied h = rw (drop-cons from k d h, add-one k)
+past : {A : Type 0} (vs l : List A) (i : ℕ) → length l ≤ i → sets l i vs ≡ l
+past [] l i h = refl
+past (a ∷ vs) l i h = rw (set_out l i a h) (past vs l (suc i) (omega arith))
 
-  pub copy_in : k < length from → sets to k (drop k from) ≡ sets (set to k (get_or from k d)) (k + 1) (drop (k + 1) from)
-  copy_in h = copied h
+no_more : {A : Type 0} (l : List A) (i : ℕ) (vs : List A) → sets l i vs ≡ sets l i (take (length l - i) vs)
+no_more l i [] = grind (arith, common_steps)
+no_more {A} l i (a ∷ vs) = by (dec_lt i (length l)) (no_more (set l i a) (suc i) vs)
+  where
+    by : Dec (i < length l) → sets (set l i a) (suc i) vs ≡ sets (set l i a) (suc i) (take (length (set l i a) - suc i) vs)
+        → sets l i (a ∷ vs) ≡ sets l i (take (length l - i) (a ∷ vs))
+    by (yes h) e = let k : length l - i ≡ suc (length l - suc i) = omega arith in rw k (rw length-set at e)
+    by (no h) e = let k : length l - i ≡ 0 = omega (arith, h) in rw k (past (a ∷ vs) l i (omega (arith, h)))
 
-  pub copy_past : k < length from → length to ≤ k → sets to k (drop k from) ≡ sets to (k + 1) (drop (k + 1) from)
-  copy_past h l = copied h ∙ ap (λ (t : List A). sets t (k + 1) (drop (k + 1) from)) (set_out to k (get_or from k d) l)
-
-  pub copy_end : length from ≤ k → sets to k (drop k from) ≡ to
-  copy_end h = rw (drop_of_length-le from {i = k} h)
+pub copied : {A : Type 0} (to from xs : List A) (n : ℕ) → n ≡ min (length to) (length from) → xs ≡ take n from → xs ++ drop n to ≡ sets to 0 from
+copied to from xs n e f =
+    let n-is : n ≡ length (take (length to) from) = omega (arith, length-take (length to) from) in
+    let xs-is : xs ≡ take (length to) from = grind (arith, common_steps) in
+    rw (xs-is, n-is) (sym (no_more to 0 from ∙ rw sub-zero (sets-eq (take (length to) from) to 0 (omega (arith, length-take (length to) from)) ∙ rw zero-add)))
 
 -- where both have as many places, the one is then the other
 pub copy_all : {A : Type 0} (to from : List A) → length to ≡ length from → sets to 0 from ≡ from

@@ -1,7 +1,7 @@
 // The things of a matrix by seat: none, the seat of an id, a thing put at a seat, by which the highest id may rise; and cells copied.
 #![tactic(auto)]
 
-ghost use Rattle.std.specs.Prelude.{◌≡◌, take, max};
+ghost use Rattle.std.specs.Prelude.{◌≡◌, take};
 ghost use Rattle.std.proofs.lemmas.List.Edits.{sets};
 ghost use Rattle.model.specs.Seats.{find, no_things, put_thing};
 
@@ -25,18 +25,8 @@ pub fn no_things() -> Things
 pub fn seat_in(ids: [u16; Things::LIMIT], n: usize, x: u16) -> usize
     ensures { result ≡ find (take n ids) x }
 {
-    let mut most = Things::LIMIT;
-    if n < most {
-        most = n;
-    }
-    let mut i: usize = 0;
-    while i < most {
-        if ids[i] == x {
-            return i;
-        }
-        i += 1;
-    }
-    most
+    let most = n.min(Things::LIMIT);
+    ids[..most].iter().position(|id| *id == x).unwrap_or(most)
 }
 
 // The first seat with this id, or 48.
@@ -46,19 +36,14 @@ pub fn seat_of(ids: [u16; Things::LIMIT], x: u16) -> usize
     seat_in(ids, Things::LIMIT, x)
 }
 
-fn larger(a: u16, b: u16) -> u16
-    ensures { result ≡ max a b }
-{
-    if a < b { b } else { a }
-}
-
 // At a seat sits a thing of a type, on hold or not, and the highest id is at least its own; past the last seat nobody sits, and no more than the highest
 // may change.
+#[tactic(auto, using(crate::proofs::SeatLaws::seats), unfolding(model::specs::Seats::put_thing))]
 pub fn put_thing(th: Things, i: usize, x: u16, t: ThingType, mark: bool) -> Things
     ensures { result ≡ put_thing i x (record { type = t; on_hold = mark }) th }
 {
     let mut next = th;
-    next.highest = larger(th.highest, x);
+    next.highest = th.highest.max(x);
     if i < Things::LIMIT {
         next.ids[i] = x;
         next.types[i] = t;
@@ -71,11 +56,6 @@ pub fn put_thing(th: Things, i: usize, x: u16, t: ThingType, mark: bool) -> Thin
 pub fn copy_cells(to: &mut [u64], from: &[u64])
     ensures { to.new ≡ sets to.old 0 from.now }
 {
-    let mut k: usize = 0;
-    while k < from.len() {
-        if k < to.len() {
-            to[k] = from[k];
-        }
-        k += 1;
-    }
+    let both = to.len().min(from.len());
+    to[..both].copy_from_slice(&from[..both]);
 }
