@@ -3,7 +3,7 @@
 use Prim.Native.Nat.{ℕ, zero, suc, ◌+◌, ◌*◌, ◌/◌, ◌%◌, ◌≤◌, ◌<◌}
 use mathlib.Core.Path.{◌≡◌, refl, sym, ap, ◌∙◌}
 use mathlib.Core.Logic.{◌≢◌, ◌⊎◌, inl, inr, ⊎_elim}
-use mathlib.Core.Bool.{Bool, true, false, not, cond, ◌||◌, or-true}
+use mathlib.Core.Bool.{Bool, true, false, not, cond, beq, ◌||◌, or-true}
 use mathlib.Core.List.{List, [], ◌∷◌}
 use native.Mathlib.Nat.{add-zero, add-suc, suc-add, zero-add}
 use native.Mathlib.Numerals.{add-one}
@@ -11,33 +11,28 @@ use native.Mathlib.Omega.{arith}
 use lib.Dec.{eqb}
 use lib.ListN.{length, get_or, set}
 use borrow.Author.Tests.{eqb-true, eq-eqb}
-use Rattle.rights.specs.Sets.{has}
 use Rattle.laws.specs.Check.{◌or_else◌, must}
 use Rattle.model.specs.Answers.{verdict_of}
 use Rattle.model.specs.Request.{at}
 use Rattle.model.specs.Seats.{blank}
 use Rattle.model.specs.declared.Operation.{Operation}
 use Rattle.model.specs.declared.Test.{Test}
-use Rattle.model.specs.declared.Verdict.{Verdict}
-use Rattle.model.specs.declared.Verdict.TheVariants.{Refused}
-use Rattle.engine.specs.Inner.Cells.{place_at, holds_at, first_false, cells_by, cells_after}
+use Rattle.std.specs.Prelude.{Result, Err}
+use Rattle.model.specs.declared.Refusal.{Refusal}
+use Rattle.engine.specs.Inner.Cells.{holds_at, first_false, cells_by, cells_after}
 
 -- ---- the tests
 
 -- a test that reads its cell
-module _ (cells spots : List ℕ) (t : Test) (k : ℕ) (place : k ≡ place_at spots t.row t.column) (s : ℕ) (cell : s ≡ get_or cells k 0)
-    (there : Bool) (is : there ≡ has s t.right.0) where
-  pub holds_present : t.present ≡ true → there ≡ holds_at cells spots t
-  unfolding holds_at
-  holds_present e = rw (e, is, cell, place)
-
-  pub holds_absent : t.present ≡ false → not there ≡ holds_at cells spots t
-  unfolding holds_at
-  holds_absent e = rw (e, is, cell, place)
+pub holds_same : (there present : Bool) → beq there present ≡ cond present there (not there)
+holds_same true true = refl
+holds_same true false = refl
+holds_same false true = refl
+holds_same false false = refl
 
 -- what is left of the tests decides the verdict
 module _ (cells spots : List ℕ) where
-  abbrev pub tested_from : ℕ → List Test → Verdict
+  abbrev pub tested_from : ℕ → List Test → Result (Unit {0}) Refusal
   tested_from i ts = verdict_of (first_false cells spots i ts)
 
   module _ (i : ℕ) (t : Test) where
@@ -45,7 +40,7 @@ module _ (cells spots : List ℕ) where
     unfolding first_false must ◌or_else◌
     tests_on e ts = rw (e, add-one i)
 
-    pub tests_out : holds_at cells spots t ≡ false → (ts : List Test) → Refused (at 14 i) ≡ tested_from i (t ∷ ts)
+    pub tests_out : holds_at cells spots t ≡ false → (ts : List Test) → Err (at 14 i) ≡ tested_from i (t ∷ ts)
     unfolding first_false must ◌or_else◌
     tests_out e ts = rw e
 

@@ -5,17 +5,15 @@ use native.Mathlib.Omega.{arith}
 use native.Mathlib.Nat.{zero-add, add-zero}
 use mathlib.Core.Path.{◌≡◌, refl, ap, ◌∙◌}
 use mathlib.Core.Bool.{Bool, true, false, ◌&&◌}
-use mathlib.Core.Option.{some}
 use mathlib.Core.List.{List, [], ◌∷◌, ◌++◌, append-nil, append_assoc}
 use lib.Dec.{T}
-use lib.ListN.{length, get_or, length-append}
+use lib.ListN.{length, length-append}
 use lib.Seq.{sets, length-sets}
 use borrow.Author.Tests.{le-leb, lt-leb}
-use Rattle.model.specs.Answers.{Steps, takes, steps_of, asks_for, in_all, reply_of, reply_to, reply_each, reply_width, reply_bytes, replies_in}
-use Rattle.model.specs.Request.{Request, View, at, answer, after, step, run, answers}
+use Rattle.model.specs.Answers.{reply_to, reply_each, reply_width, reply_bytes, replies_in}
+use Rattle.model.specs.Request.{Request, View, answer, after, step, run, answers}
 use Rattle.model.specs.Seats.{Matrix, matrix_of, seats}
 use Rattle.model.specs.Accepted.{accepted_scheme, accepted_matrix}
-use Rattle.model.specs.declared.Command.{Command}
 use Rattle.model.specs.declared.Reply.{Reply}
 use Rattle.model.specs.declared.Scheme.{Scheme}
 use Rattle.model.proofs.Joined.{kept}
@@ -32,13 +30,14 @@ use Rattle.request_bytes.specs.declared.answers.RequestAnswer.{RequestAnswer}
 use Rattle.request_list.specs.List.{Listed, asked, read_list}
 use Rattle.request_list.proofs.ListLaws.{ended, end_of, Stops, Counting, counting_start, counting_none, counting_stop, counting_on}
 use Rattle.engine.specs.List.{run_answer, replies_to, Result, run_on, run_quietly}
-use Rattle.engine.specs.Inner.Carry.{answer_of, carried, planned}
+use Rattle.engine.specs.Inner.Carry.{step_on}
 use Rattle.engine.specs.Inner.Run.{ended_by, ran_on}
-use Rattle.engine.specs.declared.answers.Carried.{Carried}
-use Rattle.engine.specs.declared.answers.Ran.{Ran}
-use Rattle.engine.specs.declared.answers.RunAnswer.{RunAnswer}
-use Rattle.engine.specs.declared.answers.RunAnswer.TheVariants.{Whole, Refused}
-use Rattle.engine.proofs.StepLaws.{refused_with, no_command_lem, asks_for_none, asks_for_all, command_step, told_few, told_reply}
+use Rattle.std.specs.Prelude.{None, Ok, Err}
+use Rattle.faults.specs.Numbers.{fault_of}
+use Rattle.faults.specs.declared.Fault.TheVariants.{NotAccepted, NoRoom}
+use Rattle.engine.specs.Answers.{Stepped, RunAnswer}
+use Rattle.engine.specs.Given.{Given, Quiet, ended_as, gives, gives_quietly}
+use Rattle.engine.specs.declared.answers.Ended.{Ended}
 
 -- ---- the replies: how long they are, and what they read as
 
@@ -71,31 +70,12 @@ pub record Turned (s : Scheme) (m : Matrix) (q : Form) (y : Reply) (next : Matri
   pub said : y ≡ reply_to s (asked q) (answer (step seats s m (asked q)))
   pub left : next ≡ after m (step seats s m (asked q))
 
-module _ (s : Scheme) (m : Matrix) (q : Form) where
-  turned : (now : Carried) (cells : List ℕ) → ◌≡◌ {A = Carried × List ℕ} (now, cells) (carried m (step seats s m (asked q)))
-      → (all : Steps) → asks_for s (asked q) ≡ all → (y : Reply) → y ≡ reply_of all (answer_of now.answer) → Turned s m q y (matrix_of now.things cells)
-  turned now cells e all has y is = record {
-    said = is ∙ told_reply s m q.command (ids_of q) now cells e all has;
-    left = ap (λ (x : Carried × List ℕ). matrix_of x.0.things x.1) e;
-  }
-
-  pub turned_none : s.head.count ≤ q.command → (y : Reply) → y ≡ reply_of (takes 0 0) (some (at 10 0)) → Turned s m q y m
-  turned_none h =
-      turned (refused_with 10 m.things) _ (no_command_lem s m q.command (ids_of q) h (refused_with 10 m.things) refl) _ (asks_for_none s q.command h)
-
-  module _ (ok : T (accepted_scheme s)) (of : T (accepted_matrix s.head m)) (h : q.command < s.head.count) (d : Command) (now : Carried) (cells : List ℕ)
-      (e : ◌≡◌ {A = Carried × List ℕ} (now, cells) (carried m (planned m (ids_of q) (get_or s.commands q.command d)))) where
-    abbrev all : Steps
-    all = takes (get_or s.commands q.command d).tests.count (get_or s.commands q.command d).operations.count
-
-    stepped : ◌≡◌ {A = Carried × List ℕ} (now, cells) (carried m (step seats s m (asked q)))
-    stepped = command_step s ok m of q.command h d (ids_of q) _ e
-
-    pub turn_few : in_all (steps_of all (answer_of now.answer)) ≤ 48
-    turn_few = told_few s m q.command (ids_of q) now cells stepped all (asks_for_all s ok m of q.command h d) ok
-
-    pub turned_some : (y : Reply) → y ≡ reply_of all (answer_of now.answer) → Turned s m q y (matrix_of now.things cells)
-    turned_some = turned now cells stepped all (asks_for_all s ok m of q.command h d)
+pub turned : (s : Scheme) (m : Matrix) (q : Form) (y : Reply) (next : Matrix) →
+    ◌≡◌ {A = Stepped × List ℕ} (record { answer = y; things = next.things }, next.cells) (step_on s m q.command (ids_of q)) → Turned s m q y next
+turned s m q y next e = record {
+  said = ap (λ (x : Stepped × List ℕ). x.0.answer) e;
+  left = ap (λ (x : Stepped × List ℕ). matrix_of x.0.things x.1) e;
+}
 
 -- ---- the requests done and the requests left are the whole
 
@@ -165,47 +145,43 @@ module _ {s : Scheme} {first : Matrix} {bytes buffer : List ℕ} {m : Matrix} {o
       let told : replies_to s first (read_list bytes).requests ≡ r.said = (rw qs at r.told) ∙ append-nil r.said in
       rw (long, ending, ran, told, ← r.stored)
 
-  pub run_none : length bytes ≤ p → result (Whole n) ≡ ran_on s first bytes buffer
-  run_none h = finish _ (counting_none r.counting h)
+  pub run_none : length bytes ≤ p
+      → ◌≡◌ {A = Given} (Ok (record { count = n; cut = None }), m.things, m.cells, out) (gives (ran_on s first bytes buffer))
+  run_none h = ap gives (finish _ (counting_none r.counting h))
 
   pub run_stop : p < length bytes → (a : RequestAnswer) → a ≡ read_request bytes p → Stops a.answer
-      → (now : Ran) → now ≡ record { answer = ended_by n a.answer; things = m.things }
-      → record { ran = now; cells = m.cells; replies = out } ≡ ran_on s first bytes buffer
-  run_stop more a is h now e = rw (e, ended_same n p a.answer) (finish _ (counting_stop r.counting more a is a.answer refl h))
+      → (now : Ended) → Ok now ≡ ended_as (ended_by n a.answer)
+      → ◌≡◌ {A = Given} (Ok now, m.things, m.cells, out) (gives (ran_on s first bytes buffer))
+  run_stop more a is h now e = rw (e, ended_same n p a.answer) (ap gives (finish _ (counting_stop r.counting more a is a.answer refl h)))
 
 -- ---- a list as a whole: what refuses it, and what is told of it where nothing does
 
-module _ (s : Scheme) (m : Matrix) (bytes out : List ℕ) (now : Ran) where
+module _ (s : Scheme) (m : Matrix) (bytes : List ℕ) where
   abbrev accepted : Bool
   accepted = accepted_scheme s && accepted_matrix s.head m
 
-  abbrev Given : List ℕ → List ℕ → Type 0
-  Given cells replies = record { ran = now; cells = cells; replies = replies } ≡ run_on s m bytes out
+  module _ (e : accepted ≡ false) where
+    pub list_27 : (out : List ℕ) → ◌≡◌ {A = Given} (Err NotAccepted, m.things, m.cells, out) (gives (run_on s m bytes out))
+    unfolding run_on fault_of
+    list_27 out = rw e
 
-  abbrev Quiet : List ℕ → Type 0
-  Quiet cells = ◌≡◌ {A = Ran × List ℕ} (now, cells) (run_quietly s m bytes)
+    pub quiet_27 : ◌≡◌ {A = Quiet} (Err NotAccepted, m.things, m.cells) (gives_quietly (run_quietly s m bytes))
+    unfolding run_quietly fault_of
+    quiet_27 = rw e
 
-  module _ (e : accepted ≡ false) (f : now ≡ record { answer = Refused 27; things = m.things }) where
-    pub list_27 : Given m.cells out
-    unfolding run_on
-    list_27 = rw (e, f)
+  module _ (e : accepted ≡ true) (out : List ℕ) where
+    pub list_9 : length out < reply_width * length (read_list bytes).requests
+        → ◌≡◌ {A = Given} (Err NoRoom, m.things, m.cells, out) (gives (run_on s m bytes out))
+    unfolding run_on fault_of
+    list_9 h = rw (e, lt-leb _ _ h)
 
-    pub quiet_27 : Quiet m.cells
-    unfolding run_quietly
-    quiet_27 = rw (e, f)
-
-  module _ (e : accepted ≡ true) where
-    pub list_9 : length out < reply_width * length (read_list bytes).requests → now ≡ record { answer = Refused 9; things = m.things } → Given m.cells out
-    unfolding run_on
-    list_9 h f = rw (e, lt-leb _ _ h, f)
-
-    module _ (cells replies : List ℕ) (f : record { ran = now; cells = cells; replies = replies } ≡ ran_on s m bytes out) where
-      pub list_runs : reply_width * length (read_list bytes).requests ≤ length out → Given cells replies
+    module _ (now : Given) (f : now ≡ gives (ran_on s m bytes out)) where
+      pub list_runs : reply_width * length (read_list bytes).requests ≤ length out → now ≡ gives (run_on s m bytes out)
       unfolding run_on ran_on
       list_runs h =
           let fits : 0 + length (replies_to s m (read_list bytes).requests) ≤ length out = omega (arith, replies_long s m (read_list bytes).requests) in
           rw (e, le-leb _ _ h, ← placed_sets out 0 (replies_to s m (read_list bytes).requests) fits) f
 
-      pub quiet_runs : Quiet cells
+      pub quiet_runs : ◌≡◌ {A = Quiet} (now.0, now.1, now.2) (gives_quietly (run_quietly s m bytes))
       unfolding run_quietly ran_on
-      quiet_runs = rw e (ap (λ (x : Result). (x.ran, x.cells)) f)
+      quiet_runs = rw e (ap (λ (x : Given). (x.0, x.1, x.2)) f)

@@ -34,7 +34,8 @@ use Rattle.model.proofs.Held.{HeldThings}
 use Rattle.model.proofs.HeldLaws.{held}
 use Rattle.model.proofs.Simulation.{or_same, places_same}
 use Rattle.plan.specs.Locate.{bare, spots_of}
-use Rattle.plan.specs.Plan.{seat_at, Plan, plan_of, plan_create, plan_destroy, plan_by, plan_all}
+use Rattle.plan.specs.declared.plan.Plan.{Plan}
+use Rattle.plan.specs.Plan.{seat_at, plan_of, plan_create, plan_destroy, plan_by, plan_all}
 use Rattle.plan.proofs.Seated.{Seated, seat_same, seated_create, seated_later, look_same, seat_known, seated_destroy, ids_nonzero, seated}
 use Rattle.engine.specs.Inner.Cells.{place_at, holds_at, first_false, change_at, cells_by, cells_after}
 use Rattle.engine.specs.Inner.Carry.{Counted, carried_by, planned}

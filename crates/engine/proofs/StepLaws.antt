@@ -18,14 +18,15 @@ use Rattle.model.specs.Request.{Request, at, Answer, answer, after, carry_out_if
 use Rattle.model.specs.Seats.{Matrix, seats}
 use Rattle.model.specs.Accepted.{head_fault, accepted_command, accepted_scheme, accepted_matrix}
 use Rattle.model.specs.declared.Command.{Command}
+use Rattle.model.specs.declared.Refusal.{Refusal}
+use Rattle.model.specs.declared.Reply.{Reply}
 use Rattle.model.specs.declared.Scheme.{Scheme}
-use Rattle.model.specs.declared.Things.{Things}
 use Rattle.model.proofs.Form.{all_at}
 use Rattle.model.proofs.StepsTaken.{steps_taken}
 use Rattle.engine.specs.Step.{request_on}
-use Rattle.engine.specs.Inner.Carry.{answer_of, carried, planned, step_on}
-use Rattle.engine.specs.declared.answers.Carried.{Carried}
-use Rattle.engine.specs.declared.answers.Stepped.{Stepped}
+use Rattle.engine.specs.Inner.Carry.{answer_of, Carried, carried, planned, step_on}
+use Rattle.std.specs.Prelude.{Result, Err}
+use Rattle.engine.specs.Answers.{Stepped}
 use Rattle.engine.proofs.PlanIsStep.{Ready, lists_used, plan_is_step}
 
 -- ---- what is accepted, one by one
@@ -48,16 +49,12 @@ some_at (x ∷ l) d zero i h k = absurd (not-suc-le-zero h)
 some_at (x ∷ l) d (suc n) zero h k = refl
 some_at (x ∷ l) d (suc n) (suc i) h k = some_at l d n i (le_of_suc-le-suc h) (le_of_suc-le-suc k)
 
-abbrev pub refused_with : ℕ → Things → Carried
-refused_with k th = record { answer = verdict_of (some (at k 0)); things = th }
-
-abbrev carried_on : Scheme → Matrix → ℕ → List ℕ → Carried × List ℕ
+abbrev carried_on : Scheme → Matrix → ℕ → List ℕ → Carried
 carried_on s m i ids = carried m (step seats s m (record { command = i; ids = ids }))
 
-pub no_command_lem : (s : Scheme) (m : Matrix) (i : ℕ) (ids : List ℕ) → s.head.count ≤ i → (now : Carried) → now ≡ refused_with 10 m.things
-    → ◌≡◌ {A = Carried × List ℕ} (now, m.cells) (carried_on s m i ids)
+pub no_command_lem : (s : Scheme) (m : Matrix) (i : ℕ) (ids : List ℕ) → s.head.count ≤ i → ◌≡◌ {A = Carried} (Err (at 10 0), m) (carried_on s m i ids)
 unfolding step carry_out_if answer after
-no_command_lem s m i ids h now e = rw (none_past s.commands s.head.count i h, e)
+no_command_lem s m i ids h = rw (none_past s.commands s.head.count i h)
 
 pub asks_for_none : (s : Scheme) (i : ℕ) → s.head.count ≤ i → all_steps (get_elem? (commands_of s) i) ≡ takes 0 0
 unfolding all_steps
@@ -88,7 +85,7 @@ module _ (s : Scheme) (ok : T (accepted_scheme s)) where
       matrix = held;
     }
 
-    pub command_step : (ids : List ℕ) (now : Carried × List ℕ) → now ≡ carried m (planned m ids (get_or s.commands i d)) → now ≡ carried_on s m i ids
+    pub command_step : (ids : List ℕ) (now : Carried) → now ≡ carried m (planned m ids (get_or s.commands i d)) → now ≡ carried_on s m i ids
     unfolding step carry_out_if
     command_step ids now e =
         rw (some_at s.commands d s.head.count i h enough_commands, ← plan_is_step (get_or s.commands i d) m command_ready ids) e
@@ -111,28 +108,25 @@ pub answer_back : (a : Answer) → answer_of (verdict_of a) ≡ a
 answer_back none = refl
 answer_back (some r) = refl
 
--- what is told of it
-abbrev told_of : Steps → Carried → Stepped
-told_of all c = record { answer = reply_of all (answer_of c.answer); things = c.things }
-
-module _ (s : Scheme) (m : Matrix) (i : ℕ) (ids : List ℕ) (c : Carried) (cells : List ℕ) (e : ◌≡◌ {A = Carried × List ℕ} (c, cells) (carried_on s m i ids))
-    (all : Steps) (has : all_steps (get_elem? (commands_of s) i) ≡ all) where
+module _ (s : Scheme) (m : Matrix) (i : ℕ) (ids : List ℕ) (result : Result (Unit {0}) Refusal) (next : Matrix)
+    (e : ◌≡◌ {A = Carried} (result, next) (carried_on s m i ids)) (all : Steps) (has : all_steps (get_elem? (commands_of s) i) ≡ all) where
   abbrev q : Request
   q = record { command = i; ids = ids }
 
-  said : answer_of c.answer ≡ answer (step seats s m q)
-  said = ap (λ (x : Carried × List ℕ). answer_of x.0.answer) e ∙ answer_back _
+  said : answer_of result ≡ answer (step seats s m q)
+  said = ap (λ (x : Carried). answer_of x.0) e ∙ answer_back _
 
-  pub told_few : T (accepted_scheme s) → in_all (steps_of all (answer_of c.answer)) ≤ 48
+  pub told_few : T (accepted_scheme s) → in_all (steps_of all (answer_of result)) ≤ 48
   told_few ok = rw (said, ← has) (few_steps s ok m q)
 
-  pub told_reply : reply_of all (answer_of c.answer) ≡ reply_to s q (answer (step seats s m q))
+  told_reply : reply_of all (answer_of result) ≡ reply_to s q (answer (step seats s m q))
   unfolding reply_to
   told_reply = rw (said, has)
 
-  pub told_step : (now : Stepped) → now ≡ told_of all c → ◌≡◌ {A = Stepped × List ℕ} (now, cells) (step_on s m i ids)
-  told_step now f =
-      rw (f, told_reply) (ap (λ (x : Carried × List ℕ). (record { answer = reply_to s q (answer (step seats s m q)); things = x.0.things }, x.1)) e)
+  pub told_step : (y : Reply) → y ≡ reply_of all (answer_of result)
+      → ◌≡◌ {A = Stepped × List ℕ} (record { answer = y; things = next.things }, next.cells) (step_on s m i ids)
+  told_step y f =
+      rw (f, told_reply) (ap (λ (x : Carried). (record { answer = reply_to s q (answer (step seats s m q)); things = x.1.things }, x.1.cells)) e)
 
 -- what nobody looked at counts nothing
 pub no_steps_10 : in_all (steps_of (takes 0 0) (some (at 10 0))) ≤ 48
@@ -144,10 +138,10 @@ unfolding steps_of between
 no_steps_27 = omega arith
 
 module _ (s : Scheme) (m : Matrix) (i : ℕ) (ids : List ℕ) where
-  pub refuses_27 : (accepted_scheme s && accepted_matrix s.head m) ≡ false → (c : Carried) → c ≡ refused_with 27 m.things → (now : Stepped) → now ≡ told_of (takes 0 0) c
-      → ◌≡◌ {A = Stepped × List ℕ} (now, m.cells) (request_on s m i ids)
+  pub refuses_27 : (accepted_scheme s && accepted_matrix s.head m) ≡ false → (y : Reply) → y ≡ reply_of (takes 0 0) (some (at 27 0))
+      → ◌≡◌ {A = Stepped × List ℕ} (record { answer = y; things = m.things }, m.cells) (request_on s m i ids)
   unfolding request_on answer after reply_to reply_of steps_of between
-  refuses_27 e c f now told = rw (e, told, f)
+  refuses_27 e y f = rw (e, f)
 
   pub request_step : (accepted_scheme s && accepted_matrix s.head m) ≡ true → (now : Stepped) (cells : List ℕ)
       → ◌≡◌ {A = Stepped × List ℕ} (now, cells) (step_on s m i ids) → ◌≡◌ {A = Stepped × List ℕ} (now, cells) (request_on s m i ids)

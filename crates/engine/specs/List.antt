@@ -12,9 +12,7 @@ use Rattle.records.specs.Writing.{placed}
 use Rattle.records.specs.Outcome.Reading.{Reading}
 use Rattle.records.specs.Outcome.Reading as reading
 use Rattle.request_list.specs.List.{read_list}
-use Rattle.engine.specs.declared.answers.RunAnswer.{RunAnswer}
-use Rattle.engine.specs.declared.answers.RunAnswer.TheVariants.{Whole, Bad, Refused}
-use Rattle.engine.specs.declared.answers.Ran.{Ran}
+use Rattle.engine.specs.Answers.{RunAnswer, Whole, Bad, Refused, Ran}
 
 -- how a list of so many requests ended, by its reading
 abbrev pub run_answer : ℕ → Reading → RunAnswer

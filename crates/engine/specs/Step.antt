@@ -6,7 +6,7 @@ use Rattle.model.specs.Answers.{reply_to}
 use Rattle.model.specs.Seats.{Matrix, seats}
 use Rattle.model.specs.Accepted.{accepted_scheme, accepted_matrix}
 use Rattle.model.specs.declared.Scheme.{Scheme}
-use Rattle.engine.specs.declared.answers.Stepped.{Stepped}
+use Rattle.engine.specs.Answers.{Stepped}
 
 -- the reply with the things, and what the cells then hold; where it is refused, both as they were
 abbrev pub answered : Scheme → Matrix → Request → Outcome Matrix → Stepped × List ℕ

@@ -1,15 +1,15 @@
 // The cells: the tests read them, and the operations change them once nothing can refuse any more.
 ghost use Rattle.std.specs.Prelude.{◌≡◌, ◌≤◌, length, get_or, set};
-ghost use Rattle.rights.specs.Sets.{enter_right, delete_right};
 ghost use Rattle.model.specs.Answers.{verdict_of};
 ghost use Rattle.model.specs.Scheme.{tests_of, operations_of};
 ghost use Rattle.model.specs.Seats.{blank};
-ghost use Rattle.engine.specs.Inner.Cells.{place_at, holds_at, first_false, change_at, cells_by, cells_after};
+ghost use Rattle.engine.specs.Inner.Cells.{place_at, holds_at, first_false, cells_by, cells_after};
 
-use model::{Code, Operation, Operations, Parameters, Refusal, Test, Tests, Things, Verdict};
+use model::{Code, Operation, Operations, Parameters, Refusal, Test, Tests, Things};
 use plan::seat_at;
-use rights::{Parameter, Right, RightSet};
+use rights::{Parameter, RightSet};
 
+#[tactic(auto, unfolding(crate::specs::Inner::Cells::place_at))]
 fn place_at(spots: [u8; Parameters::PLACES], row: Parameter, column: Parameter) -> usize
     ensures { result ≡ place_at spots row column }
 {
@@ -20,11 +20,7 @@ fn place_at(spots: [u8; Parameters::PLACES], row: Parameter, column: Parameter) 
 fn cell_at(cells: &[u64], k: usize) -> RightSet
     ensures { result.0 ≡ get_or cells.now k 0 }
 {
-    if k < cells.len() {
-        RightSet(cells[k])
-    } else {
-        RightSet(0)
-    }
+    RightSet(cells.get(k).copied().unwrap_or(0))
 }
 
 fn put_cell(cells: &mut [u64], k: usize, s: RightSet)
@@ -40,31 +36,28 @@ fn put_cell(cells: &mut [u64], k: usize, s: RightSet)
 fn holds(cells: &[u64], spots: [u8; Parameters::PLACES], t: Test) -> bool
     ensures { result ≡ holds_at cells.now spots t }
 {
-    let row = t.row;
-    let column = t.column;
-    let right = t.right;
-    let there = cell_at(cells, place_at(spots, row, column)).has(right);
-    if t.present { there } else { !there }
+    let there = cell_at(cells, place_at(spots, t.row, t.column)).has(t.right);
+    there == t.present
 }
 
 // The first test that doesn't hold is the fault.
-pub(crate) fn tests_fault(cells: &[u64], spots: [u8; Parameters::PLACES], t: Tests) -> Verdict
+pub(crate) fn test_all(
+    cells: &[u64],
+    spots: [u8; Parameters::PLACES],
+    t: Tests,
+) -> Result<(), Refusal>
     requires { t.count ≤ 16 }
     ensures { result ≡ verdict_of (first_false cells.now spots 0 (tests_of t)) }
 {
-    let n = t.count as usize;
-    let mut i: usize = 0;
-    while i < n {
-        let one = t.list[i];
-        if !holds(cells, spots, one) {
-            return Verdict::Refused(Refusal {
+    for (place, one) in t.list[..t.count as usize].iter().enumerate() {
+        if !holds(cells, spots, *one) {
+            return Err(Refusal {
                 number: 14,
-                place: i as u8,
+                place: place as u8,
             });
         }
-        i += 1;
     }
-    Verdict::Done
+    Ok(())
 }
 
 // ---- operations
@@ -75,48 +68,23 @@ fn blank_seat(cells: &mut [u64], p: usize)
     ensures { cells.new ≡ blank p 0 cells.old }
 {
     if p < Things::LIMIT {
-        let mut j: usize = 0;
-        while j < Things::LIMIT {
+        for j in 0..Things::LIMIT {
             cells[p * Things::LIMIT + j] = 0;
             cells[j * Things::LIMIT + p] = 0;
-            j += 1;
         }
     }
-}
-
-fn enter_at(cells: &mut [u64], k: usize, r: Right)
-    ensures { cells.new ≡ change_at (enter_right r.0) k cells.old }
-{
-    let s = cell_at(cells, k).enter(r);
-    put_cell(cells, k, s);
-}
-
-fn delete_at(cells: &mut [u64], k: usize, r: Right)
-    ensures { cells.new ≡ change_at (delete_right r.0) k cells.old }
-{
-    let s = cell_at(cells, k).delete(r);
-    put_cell(cells, k, s);
 }
 
 fn change_one(cells: &mut [u64], spots: [u8; Parameters::PLACES], o: Operation)
     requires { length cells.old ≡ 2304 }
     ensures { cells.new ≡ cells_by spots o cells.old o.code }
 {
-    let code = o.code;
-    let right = o.right;
-    let row = o.row;
-    let column = o.column;
-    match code {
-        Code::Enter => {
-            enter_at(cells, place_at(spots, row, column), right);
-        }
-        Code::Delete => {
-            delete_at(cells, place_at(spots, row, column), right);
-        }
+    let k = place_at(spots, o.row, o.column);
+    match o.code {
+        Code::Enter => put_cell(cells, k, cell_at(cells, k).enter(o.right)),
+        Code::Delete => put_cell(cells, k, cell_at(cells, k).delete(o.right)),
         Code::Create => {}
-        Code::Destroy => {
-            blank_seat(cells, seat_at(spots, row) as usize);
-        }
+        Code::Destroy => blank_seat(cells, seat_at(spots, o.row) as usize),
     }
 }
 
@@ -124,11 +92,7 @@ pub(crate) fn change_all(cells: &mut [u64], spots: [u8; Parameters::PLACES], o: 
     requires { (o.count ≤ 32) × (length cells.old ≡ 2304) }
     ensures { cells.new ≡ cells_after spots (operations_of o) cells.old }
 {
-    let n = o.count as usize;
-    let mut i: usize = 0;
-    while i < n {
-        let one = o.list[i];
-        change_one(cells, spots, one);
-        i += 1;
+    for one in &o.list[..o.count as usize] {
+        change_one(cells, spots, *one);
     }
 }

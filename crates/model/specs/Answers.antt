@@ -1,7 +1,7 @@
 -- What the answer to a request is in the code: a verdict; and what is told of it, a reply, with its bytes in a buffer. `step` knows nothing of this:
 -- the test's place and the steps are read off its answer.
 -- Assumes nothing.
-use Rattle.std.specs.Prelude.{ℕ, suc, ◌+◌, cond, List, [], ◌∷◌, eqb, length}
+use Rattle.std.specs.Prelude.{ℕ, suc, ◌+◌, cond, List, [], ◌∷◌, eqb, length, Result, Ok, Err}
 use Rattle.std.proofs.Math.Option.{Option, none, some}
 use Rattle.std.proofs.Math.ListN.{get_elem?}
 use Rattle.laws.specs.Check.{between}
@@ -9,13 +9,12 @@ use Rattle.model.specs.Scheme.{tests_of, operations_of, commands_of}
 use Rattle.model.specs.Request.{Request, Answer, number}
 use Rattle.model.specs.declared.Command.{Command}
 use Rattle.model.specs.declared.Scheme.{Scheme}
-use Rattle.model.specs.declared.Verdict.{Verdict}
-use Rattle.model.specs.declared.Verdict.TheVariants.{Done, Refused}
+use Rattle.model.specs.declared.Refusal.{Refusal}
 use Rattle.model.specs.declared.Reply.{Reply}
 
-abbrev pub verdict_of : Answer → Verdict
-verdict_of none = Done
-verdict_of (some r) = Refused r
+abbrev pub verdict_of : Answer → Result (Unit {0}) Refusal
+verdict_of none = Ok tt
+verdict_of (some r) = Err r
 
 -- with 14 the place of the test that doesn't hold, with every other number 255
 unfoldable pub test_place : Answer → ℕ

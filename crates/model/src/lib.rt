@@ -12,7 +12,7 @@ pub struct Test {
     pub column: Parameter,
 }
 
-#[derive(Clone, Copy)]
+#[derive(Clone, Copy, Debug, PartialEq, Eq)]
 pub enum Code {
     Enter,
     Delete,
@@ -82,21 +82,15 @@ pub struct Things {
 
 // Why a request was refused: the outline's number, and the place, from 0, of the test (14) or of the operation (15 to 17) at fault; 0 with every other
 // number.
-#[derive(Clone, Copy)]
+#[derive(Clone, Copy, Debug, PartialEq, Eq)]
 pub struct Refusal {
     pub number: u8,
     pub place: u8,
 }
 
-#[derive(Clone, Copy)]
-pub enum Verdict {
-    Done,
-    Refused(Refusal),
-}
-
 // What is told of it: the outline's number, 0 for success; with 14 the place, from 0, of the test that doesn't hold, with every other number
 // `NO_TEST`; and how many tests were evaluated and operations carried out or refused.
-#[derive(Clone, Copy)]
+#[derive(Clone, Copy, Debug, PartialEq, Eq)]
 pub struct Reply {
     pub number: u8,
     pub test: u8,

@@ -1,6 +1,6 @@
 -- The seats of the parameters' things, or the first fault of their ids (12, 13, 18).
 -- Assumes nothing.
-use Rattle.std.specs.Prelude.{ℕ, suc, Bool, cond, List, [], ◌∷◌, replicate}
+use Rattle.std.specs.Prelude.{ℕ, suc, Bool, cond, List, [], ◌∷◌, replicate, Result, Ok, Err}
 use Rattle.std.proofs.Math.Option.{Option, none, some}
 use Rattle.std.proofs.lemmas.List.Edits.{sets}
 use Rattle.rights.specs.Numberings.{parameter}
@@ -11,8 +11,6 @@ use Rattle.model.specs.Seats.{Matrix, matrix_of, seats, find}
 use Rattle.model.specs.declared.Operation.{Operation}
 use Rattle.model.specs.declared.Refusal.{Refusal}
 use Rattle.model.specs.declared.Things.{Things}
-use Rattle.model.specs.declared.Verdict.TheVariants.{Done, Refused}
-use Rattle.plan.specs.declared.places.Located.{Located}
 
 -- things with no cells: the checks of the places look at no cell
 abbrev pub bare : Things → Matrix
@@ -35,9 +33,10 @@ no_spots = replicate 8 0
 unfoldable pub spots_of : Things → List Operation → List ThingType → List ℕ → List ℕ
 spots_of th os types ids = sets no_spots 0 (seats_from th os 0 types ids)
 
-abbrev pub located_by : List ℕ → Option Refusal → Located
-located_by spots none = record { answer = Done; spots = spots }
-located_by spots (some r) = record { answer = Refused r; spots = no_spots }
+-- what is found, unless there is a fault
+abbrev pub unless : {A : Type 0} → A → Option Refusal → Result A Refusal
+unless found none = Ok found
+unless found (some r) = Err r
 
-unfoldable pub located : Things → List Operation → List ThingType → List ℕ → Located
-located th os types ids = located_by (spots_of th os types ids) (places_fault seats (bare th) os 0 types ids)
+unfoldable pub located : Things → List Operation → List ThingType → List ℕ → Result (List ℕ) Refusal
+located th os types ids = unless (spots_of th os types ids) (places_fault seats (bare th) os 0 types ids)

@@ -1,7 +1,7 @@
 -- The plan of a request: what the creates and destroys make of the things, and where the created ones sit, or the first fault (15, 16, 17). The model's
 -- operations do the same to a whole matrix; here a thing is found by its parameter's seat, and no cell is asked for.
 -- Assumes nothing.
-use Rattle.std.specs.Prelude.{ℕ, suc, not, List, [], ◌∷◌, eqb, get_or, set}
+use Rattle.std.specs.Prelude.{ℕ, suc, not, List, [], ◌∷◌, eqb, get_or, set, Result, Ok, Err}
 use Rattle.rights.specs.declared.ThingType.{ThingType}
 use Rattle.rights.specs.declared.Parameter.{Parameter}
 use Rattle.laws.specs.Check.{◌or_else◌, must}
@@ -12,17 +12,12 @@ use Rattle.model.specs.declared.Code.{Code}
 use Rattle.model.specs.declared.Code.TheVariants.{Enter, Delete, Create, Destroy}
 use Rattle.model.specs.declared.Operation.{Operation}
 use Rattle.model.specs.declared.Things.{Things}
-use Rattle.model.specs.declared.Verdict.TheVariants.{Done, Refused}
-use Rattle.plan.specs.Locate.{no_spots}
-use Rattle.plan.specs.declared.plan.Planning.{Planning}
+use Rattle.model.specs.declared.Refusal.{Refusal}
+use Rattle.plan.specs.declared.plan.Plan.{Plan}
 
 -- where a parameter's thing sits
 unfoldable pub seat_at : List ℕ → Parameter → ℕ
 seat_at spots p = get_or spots p.0 0
-
-pub record Plan : Type 0 where
-  pub things : Things
-  pub spots : List ℕ
 
 abbrev pub plan_of : Things → List ℕ → Plan
 plan_of th spots = record { things = th; spots = spots }
@@ -50,6 +45,7 @@ unfoldable pub plan_all : List ThingType → List ℕ → ℕ → List Operation
 plan_all types ids place [] plan = done plan
 plan_all types ids place (o ∷ os) plan = and_then (plan_by types ids place o plan o.code) (plan_all types ids (suc place) os)
 
-abbrev pub as_planning : Things → Outcome Plan → Planning
-as_planning th (done plan) = record { answer = Done; things = plan.things; spots = plan.spots }
-as_planning th (refused r) = record { answer = Refused r; things = th; spots = no_spots }
+-- an outcome as functions give it
+abbrev pub as_result : {A : Type 0} → Outcome A → Result A Refusal
+as_result (done a) = Ok a
+as_result (refused r) = Err r

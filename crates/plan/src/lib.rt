@@ -6,6 +6,6 @@ mod places;
 mod plan;
 mod spots;
 
-pub use places::{Located, locate};
-pub use plan::{Planning, plan_all};
+pub use places::locate;
+pub use plan::{Plan, plan_all};
 pub use spots::seat_at;

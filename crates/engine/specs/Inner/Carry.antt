@@ -1,7 +1,7 @@
 -- A command in the order of the code: the parameters' seats, the tests, a plan of the creates and destroys on a copy of the things, which meets every
 -- fault, and only then the cells. That this is the model's step is proved.
 -- Assumes nothing.
-use Rattle.std.specs.Prelude.{ℕ, ◌≤◌, ◌≡◌, List, eqb, length}
+use Rattle.std.specs.Prelude.{ℕ, ◌≤◌, ◌≡◌, List, eqb, length, Result, Ok, Err}
 use Rattle.std.proofs.Math.Option.{none, some}
 use Rattle.laws.specs.Check.{◌or_else◌, must}
 use Rattle.model.specs.Scheme.{parameters_of, tests_of, operations_of}
@@ -11,23 +11,25 @@ use Rattle.model.specs.Seats.{Matrix, matrix_of, seats}
 use Rattle.model.specs.declared.Operation.{Operation}
 use Rattle.model.specs.declared.Command.{Command}
 use Rattle.model.specs.declared.Scheme.{Scheme}
-use Rattle.model.specs.declared.Verdict.{Verdict}
-use Rattle.model.specs.declared.Verdict.TheVariants.{Done, Refused}
+use Rattle.model.specs.declared.Refusal.{Refusal}
 use Rattle.plan.specs.Locate.{bare, spots_of}
-use Rattle.plan.specs.Plan.{Plan, plan_of, plan_all}
+use Rattle.plan.specs.Plan.{plan_of, plan_all}
+use Rattle.plan.specs.declared.plan.Plan.{Plan}
+use Rattle.engine.specs.Answers.{Stepped}
 use Rattle.engine.specs.Step.{answered}
 use Rattle.engine.specs.Inner.Cells.{first_false, cells_after}
-use Rattle.engine.specs.declared.answers.Carried.{Carried}
-use Rattle.engine.specs.declared.answers.Stepped.{Stepped}
 
--- the answer that a verdict stands for
-abbrev pub answer_of : Verdict → Answer
-answer_of Done = none
-answer_of (Refused r) = some r
+-- the answer that a function's result stands for
+abbrev pub answer_of : Result (Unit {0}) Refusal → Answer
+answer_of (Ok u) = none
+answer_of (Err r) = some r
 
--- the verdict with the things, and the cells
-abbrev pub carried : Matrix → Outcome Matrix → Carried × List ℕ
-carried m o = (record { answer = verdict_of (answer o); things = (after m o).things }, (after m o).cells)
+-- what a command that is carried out gives, and the matrix afterwards
+abbrev pub Carried : Type 0
+Carried = Result (Unit {0}) Refusal × Matrix
+
+abbrev pub carried : Matrix → Outcome Matrix → Carried
+carried m o = (verdict_of (answer o), after m o)
 
 -- what the lists of a command and the cells are as long as
 pub record Counted (c : Command) (cells : List ℕ) : Type 0 where

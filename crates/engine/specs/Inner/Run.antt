@@ -9,8 +9,7 @@ use Rattle.request_bytes.specs.declared.answers.RequestReading.{RequestReading}
 use Rattle.request_bytes.specs.declared.answers.RequestReading.TheVariants.{Done, End, Refused}
 use Rattle.request_list.specs.List.{read_list}
 use Rattle.engine.specs.List.{run_answer, replies_to, Result}
-use Rattle.engine.specs.declared.answers.RunAnswer.{RunAnswer}
-use Rattle.engine.specs.declared.answers.RunAnswer.TheVariants.{Whole, Bad}
+use Rattle.engine.specs.Answers.{RunAnswer, Whole, Bad}
 
 -- how a list of so many requests ended, by the reading that gave no further one
 abbrev pub ended_by : ℕ → RequestReading → RunAnswer

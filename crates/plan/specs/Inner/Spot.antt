@@ -1,19 +1,12 @@
 -- The answer of one place.
 -- Assumes nothing.
-use Rattle.std.specs.Prelude.{ℕ, Bool}
-use Rattle.std.proofs.Math.Option.{Option, none, some}
+use Rattle.std.specs.Prelude.{ℕ, Bool, Result}
 use Rattle.rights.specs.declared.ThingType.{ThingType}
 use Rattle.model.specs.Request.{place_fault}
 use Rattle.model.specs.Seats.{seats}
 use Rattle.model.specs.declared.Refusal.{Refusal}
 use Rattle.model.specs.declared.Things.{Things}
-use Rattle.model.specs.declared.Verdict.TheVariants.{Done, Refused}
-use Rattle.plan.specs.Locate.{bare, seat_of}
-use Rattle.plan.specs.declared.places.Spot.{Spot}
+use Rattle.plan.specs.Locate.{bare, seat_of, unless}
 
-abbrev pub spot_by : ℕ → Option Refusal → Spot
-spot_by seat none = record { answer = Done; seat = seat }
-spot_by seat (some r) = record { answer = Refused r; seat = 0 }
-
-unfoldable pub spot_of : Things → Bool → ThingType → ℕ → Spot
-spot_of th new t x = spot_by (seat_of th new x) (place_fault seats (bare th) new t x)
+unfoldable pub spot_of : Things → Bool → ThingType → ℕ → Result ℕ Refusal
+spot_of th new t x = unless (seat_of th new x) (place_fault seats (bare th) new t x)

@@ -1,9 +1,9 @@
--- The two cases of the test's sign.
-use Rattle.engine.proofs.CellLaws.{holds_present, holds_absent}
+-- Whether the right is there is what the test says.
+use mathlib.Core.Path.{◌∙◌}
+use Rattle.engine.specs.Inner.Cells.{holds_at}
+use Rattle.engine.proofs.CellLaws.{holds_same}
 use Rattle.engine.proofs.cells.holds.Goals as goal
 
-pub returns-then-t : goal.returns-then-t
-returns-then-t c = holds_present _ _ _ _ c.place_at.ensures _ c.cell_at.ensures _ c.has-there.ensures c.if-t.true
-
-pub returns-else-t : goal.returns-else-t
-returns-else-t c = holds_absent _ _ _ _ c.place_at.ensures _ c.cell_at.ensures _ c.has-there.ensures c.if-t.false
+pub returns : goal.returns
+unfolding holds_at
+returns c = holds_same _ _ ∙ rw (c.has-there.ensures, c.cell_at.ensures, c.place_at.ensures)

@@ -8,7 +8,7 @@ use Rattle.engine.proofs.list.run_all.Given as goal
 
 abbrev pub invariant-loop-p : goal.invariant-loop-p
 invariant-loop-p l =
-    Running l.s (matrix_of l.initial.things l.initial.cells) l.bytes l.initial.out (matrix_of l.things l.cells) l.out l.n l.p
+    Running l.s (matrix_of l.initial.th l.initial.cells) l.bytes l.initial.out (matrix_of l.th l.cells) l.out l.n l.p
 
 abbrev pub decreases-loop-p : goal.decreases-loop-p
 decreases-loop-p l = length l.bytes - l.p

@@ -6,16 +6,16 @@ use Rattle.engine.proofs.replies.reply.Goals as goal
 
 pub overflow_add-result : goal.overflow_add-result
 unfolding steps_of
-overflow_add-result c = let few = rw c.in-Done.is at c.requires in omega (arith, few)
+overflow_add-result c = let few = rw c.in-Ok.is at c.requires in omega (arith, few)
 
 pub refusal_reply-requires : goal.refusal_reply-requires
 unfolding steps_of
-refusal_reply-requires c = rw c.in-Refused.is at c.requires
+refusal_reply-requires c = rw c.in-Err.is at c.requires
 
-pub returns-in-Done : goal.returns-in-Done
+pub returns-in-Ok : goal.returns-in-Ok
 unfolding reply_of steps_of number test_place
-returns-in-Done c = rw c.in-Done.is
+returns-in-Ok c = rw c.in-Ok.is
 
-pub returns-in-Refused : goal.returns-in-Refused
+pub returns-in-Err : goal.returns-in-Err
 unfolding reply_of steps_of number test_place
-returns-in-Refused c = rw c.in-Refused.is c.refusal_reply.ensures
+returns-in-Err c = rw c.in-Err.is c.refusal_reply.ensures

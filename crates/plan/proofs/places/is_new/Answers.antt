@@ -1,26 +1,20 @@
--- The walk over the operations in use stops at the first that creates the parameter.
-use mathlib.Core.Path.{◌≡◌, sym, ap, ◌∙◌}
-use native.Mathlib.Omega.{arith}
-use lib.ListN.{length}
-use Rattle.laws.specs.Check.{any}
-use Rattle.laws.proofs.Walks.{long, start, on, out, end, any_on, any_out, take_least}
-use Rattle.model.specs.Scheme.{creates, is_new, no_operation}
+-- What `any` answers of the operations in use.
+use mathlib.Core.Path.{◌≡◌, ◌∙◌}
+use lib.ListN.{length, take}
+use Rattle.std.specs.List.{list_any}
+use Rattle.std.proofs.lemmas.Iterator.{YieldsList-from_slice}
+use Rattle.std.proofs.lemmas.Iterator.Search.{any_from_yields_List}
+use Rattle.laws.proofs.Walks.{long}
+use Rattle.model.specs.Scheme.{creates}
+use Rattle.plan.proofs.PlaceLaws.{is_new_lem}
 use borrow.Author.Rules.{rules}
+use Rattle.std.proofs.Common.{tests}
 use Rattle.plan.proofs.places.is_new.Goals as goal
 
-pub loop-i-init : goal.loop-i-init
-unfolding is_new
-loop-i-init c =
+pub returns : goal.returns
+returns c =
     let o = c.args.o in
     let room : length o.list ≡ 32 = search (rules, long) in
-    start 32 room (omega (arith, c.least-n.ensures)) (rw c.least-n.ensures (ap (any (creates _)) (take_least o.list 32 o.count room)))
-
-pub returns-then-creates : goal.returns-then-creates
-returns-then-creates c = out c.loop-i.invariant no_operation _ (omega arith) (any_out _ _ (sym c.creates.ensures ∙ c.if-creates.true))
-
-pub loop-i-preserved : goal.loop-i-preserved
-loop-i-preserved c = on c.loop-i.invariant no_operation (omega arith) (any_on _ _ (sym c.creates.ensures ∙ c.if-creates.false))
-
-pub returns : goal.returns
-unfolding any
-returns c = end c.loop-i.invariant (omega arith)
+    let e : c.any.result ≡ list_any (creates c.args.p) (take c.min-n.result o.list) =
+    any_from_yields_List (creates c.args.p) _ _ _ c.any.ensures.ran (YieldsList-from_slice (take c.min-n.result o.list) cc) (λ x b q k. search (rules, tests)) in
+    e ∙ rw c.min-n.ensures (is_new_lem o c.args.p room)

@@ -1,5 +1,5 @@
 -- The walk over the places: what is left of them, on the spots so far, decides the answer.
-use Prim.Native.Nat.{◌-◌, min}
+use Prim.Native.Nat.{min}
 use mathlib.Core.Path.{◌≡◌}
 use lib.ListN.{length}
 use Rattle.laws.proofs.Walks.{Walk}
@@ -12,6 +12,3 @@ abbrev pub invariant-loop-i : goal.invariant-loop-i
 invariant-loop-i l =
     (length l.spots ≡ 8)
     × Walk (located_from l.th (operations_of l.o) l.ids l.spots) l.p.types (min l.p.count 8) (located l.th (operations_of l.o) (parameters_of l.p) l.ids) l.i
-
-abbrev pub decreases-loop-i : goal.decreases-loop-i
-decreases-loop-i l = l.n - l.i

@@ -1,35 +1,34 @@
 -- The walk over the operations in use: what is left of them, on the plan so far, decides the answer.
-use mathlib.Core.Path.{◌≡◌, ap, sym, ◌∙◌}
+use mathlib.Core.Path.{◌≡◌, ap}
 use native.Mathlib.Omega.{arith}
 use lib.ListN.{length}
 use Rattle.laws.proofs.Walks.{long, start, on, out, end, take_least}
 use Rattle.model.specs.Scheme.{parameters_of, no_operation}
-use Rattle.plan.specs.Plan.{plan_all}
-use Rattle.plan.proofs.PlanLaws.{planned_from, plan_over, plan_on, plan_stop}
+use Rattle.plan.specs.Plan.{plan_all, plan_of}
+use Rattle.plan.proofs.PlanLaws.{planned_from, plan_on, plan_stop}
+use Rattle.std.proofs.lemmas.Result.{err_from_is_err_and}
+use lib.Seq.{get_or-take}
 use borrow.Author.Rules.{rules}
 use Rattle.plan.proofs.plan.plan_all.Goals as goal
-use Rattle.plan.proofs.plan.plan_all.Goals.{then-not-keeps_things+in-Done, else-not-keeps_things}
 
-pub loop-i-init : goal.loop-i-init
-loop-i-init c =
+pub loop-place-init : goal.loop-place-init
+loop-place-init c =
     let a = c.args in
     let room : length a.o.list ≡ 32 = search (rules, long) in
-    start 32 room (omega (arith, c.least-n.ensures))
-    (rw c.least-n.ensures (ap (planned_from a.th (parameters_of a.p) a.ids.now a.th a.spots 0) (take_least a.o.list 32 a.o.count room)))
+    start 32 room (omega (arith, c.min-n.ensures))
+    (rw c.min-n.ensures (ap (planned_from (parameters_of a.p) a.ids.now (plan_of a.th a.spots) 0) (take_least a.o.list 32 a.o.count room)))
 
-pub returns-in_default : goal.returns-in_default
-returns-in_default c =
-    c.stop.ensures
-    ∙ out c.loop-i.invariant no_operation _ (omega arith) (plan_stop _ _ _ _ _ _ _ _ c.plan_one-next.ensures _ c.in_default.is)
+pub returns-in_err-plan_one : goal.returns-in_err-plan_one
+returns-in_err-plan_one c =
+    let p = err_from_is_err_and c.from_residual.result c.from_residual.ensures.1 in
+    let one = get_or-take c.min-n.result c.args.o.list c.loop-place.place no_operation (omega arith) in
+    rw (p.1, p.2) (out c.loop-place.invariant no_operation _ (omega arith) (plan_stop _ _ _ _ _ _ _ (rw one at c.in_err-plan_one.ensures)))
 
-pub loop-i-preserved : goal.loop-i-preserved
-loop-i-preserved c =
-    on c.loop-i.invariant no_operation (omega arith)
-    (elim c.if-not-keeps_things.branch [
-      | then-not-keeps_things+in-Done w ↦ rw (w.things-is, w.to-is) (plan_on _ _ _ _ _ _ _ _ w.plan_one-next.ensures w.in-Done.is)
-      | else-not-keeps_things w ↦ rw (w.things-is, w.to-is) (plan_over _ _ _ _ _ _ _ (sym c.keeps_things.ensures ∙ w.if-not-keeps_things.false))
-    ])
+pub loop-place-preserved : goal.loop-place-preserved
+loop-place-preserved c =
+    let one = get_or-take c.min-n.result c.args.o.list c.loop-place.place no_operation (omega arith) in
+    on c.loop-place.invariant no_operation (omega arith) (plan_on _ _ _ _ _ _ (rw one at c.in_ok-plan_one.ensures))
 
 pub returns : goal.returns
 unfolding plan_all
-returns c = end c.loop-i.invariant (omega arith)
+returns c = end c.loop-place.invariant (omega arith)
