@@ -42,8 +42,8 @@ use Rattle.matrix_records.specs.Told.{of_head, of_thing, of_cell}
 use Rattle.matrix_bytes.specs.Read.{rest, matrix}
 use Rattle.matrix_bytes.specs.Answers.{as_matrix}
 use Rattle.request_bytes.specs.Told.{of_request_reading}
-use Rattle.request_bytes.specs.declared.answers.RequestReading.{RequestReading}
-use Rattle.request_bytes.specs.declared.answers.RequestReading.TheVariants as request_reading
+use Rattle.request_bytes.specs.Outcome.RequestReading.{RequestReading}
+use Rattle.request_bytes.specs.Outcome.RequestReading as request_reading
 use Rattle.request_list.specs.List.{Listed, read_list}
 use Rattle.engine.specs.Step.{answered, request_on}
 use Rattle.engine.specs.List.{Result, run_answer, of_run, refused_run, run_on, run_quietly}

@@ -35,9 +35,9 @@ use Rattle.matrix_records.specs.Read.{thing_with, is_row, above, cell, start}
 use Rattle.matrix_bytes.specs.Read.{to_end, rest, matrix}
 use Rattle.matrix_bytes.specs.Answers.{as_matrix}
 use Rattle.request_bytes.specs.Read.{ids_in, request, request_at, no_request, as_request, read_request}
-use Rattle.request_bytes.specs.declared.answers.Request.{Request}
-use Rattle.request_bytes.specs.declared.answers.RequestReading.{RequestReading}
-use Rattle.request_bytes.specs.declared.answers.RequestReading.TheVariants as request_reading
+use Rattle.request_bytes.specs.declared.Request.{Request}
+use Rattle.request_bytes.specs.Outcome.RequestReading.{RequestReading}
+use Rattle.request_bytes.specs.Outcome.RequestReading as request_reading
 use Rattle.request_list.specs.List.{on_answer, read_from, read_list}
 
 -- a reading was done, or its number passes

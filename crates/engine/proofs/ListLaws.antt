@@ -23,10 +23,10 @@ use Rattle.records.specs.Outcome.Reading.{Reading}
 use Rattle.records.proofs.BytesLaws.{sets_append}
 use Rattle.records.proofs.PlacedLaws.{placed_sets}
 use Rattle.request_bytes.specs.Read.{ids_of, read_request}
-use Rattle.request_bytes.specs.declared.answers.Request.{Request as Form}
-use Rattle.request_bytes.specs.declared.answers.RequestReading.{RequestReading}
-use Rattle.request_bytes.specs.declared.answers.RequestReading.TheVariants as request_reading
-use Rattle.request_bytes.specs.declared.answers.RequestAnswer.{RequestAnswer}
+use Rattle.request_bytes.specs.declared.Request.{Request as Form}
+use Rattle.request_bytes.specs.Outcome.RequestReading.{RequestReading}
+use Rattle.request_bytes.specs.Outcome.RequestReading as request_reading
+use Rattle.request_bytes.specs.Outcome.RequestAnswer.{RequestAnswer}
 use Rattle.request_list.specs.List.{Listed, asked, read_list}
 use Rattle.request_list.proofs.ListLaws.{ended, end_of, Stops, Counting, counting_start, counting_none, counting_stop, counting_on}
 use Rattle.engine.specs.List.{run_answer, replies_to, Result, run_on, run_quietly}

@@ -19,9 +19,9 @@ use Rattle.lines.specs.Put.{largest, put_text}
 use Rattle.lines.proofs.PutLaws.{Left, left_all, left_on, left_last, left_none}
 use Rattle.lines.proofs.LineLaws.{few_in_line}
 use Rattle.request_bytes.specs.Read.{read_request}
-use Rattle.request_bytes.specs.declared.answers.RequestAnswer.{RequestAnswer}
-use Rattle.request_bytes.specs.declared.answers.RequestReading.{RequestReading}
-use Rattle.request_bytes.specs.declared.answers.RequestReading.TheVariants.{Done, End, Refused}
+use Rattle.request_bytes.specs.Outcome.RequestAnswer.{RequestAnswer}
+use Rattle.request_bytes.specs.Outcome.RequestReading.{RequestReading}
+use Rattle.request_bytes.specs.Outcome.RequestReading.{Done, End, Refused}
 use Rattle.request_list.specs.List.{asked, read_list, Listed}
 use Rattle.printout.specs.Text.{bad_line, request_line, request_lines, ending_line}
 use Rattle.printout.specs.Inner.Ending.{replies_from, answer_line, list_text, ended_text}

@@ -19,9 +19,9 @@ use Rattle.records.proofs.TripRecord.{in_record_back}
 use Rattle.records.proofs.Wrote.{Wrote, wrote}
 use Rattle.request_bytes.specs.Read.{request_of, ids_in, request, request_at, no_request, as_request, read_request}
 use Rattle.request_bytes.specs.Write.{request_bytes, write_request}
-use Rattle.request_bytes.specs.declared.answers.Request.{Request}
-use Rattle.request_bytes.specs.declared.answers.RequestAnswer.{RequestAnswer}
-use Rattle.request_bytes.specs.declared.answers.RequestReading.TheVariants.{Done, End, Refused}
+use Rattle.request_bytes.specs.declared.Request.{Request}
+use Rattle.request_bytes.specs.Outcome.RequestAnswer.{RequestAnswer}
+use Rattle.request_bytes.specs.Outcome.RequestReading.{Done, End, Refused}
 use Rattle.laws.proofs.Differ.{constructors_differ}
 
 -- ---- a writing that was done: the ids were few, and the bytes stand there

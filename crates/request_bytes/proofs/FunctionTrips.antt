@@ -16,7 +16,7 @@ use Rattle.records.proofs.TripRecord.{in_record_back}
 use Rattle.request_bytes.specs.FunctionTrips.{FunctionTrips}
 use Rattle.request_bytes.specs.Read.{request, request_at}
 use Rattle.request_bytes.specs.Write.{write_request}
-use Rattle.request_bytes.specs.declared.answers.RequestAnswer.{RequestAnswer}
+use Rattle.request_bytes.specs.Outcome.RequestAnswer.{RequestAnswer}
 use Rattle.request_bytes.proofs.Laws.{length_request, read_on}
 use Rattle.request_bytes.proofs.Answered.{wrote_request, read_done}
 use Rattle.request_bytes.proofs.RoundTrips.{ids_of_lem, record_trip, round_trips}

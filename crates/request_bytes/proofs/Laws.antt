@@ -3,29 +3,34 @@ use Prim.Native.Nat.{ℕ, ◌+◌, ◌*◌, ◌-◌, ◌<◌, ◌≤◌}
 use native.Mathlib.Omega.{arith}
 use native.Mathlib.Nat.{mul_comm}
 use mathlib.Core.List.{List, [], ◌∷◌, ◌++◌}
-use mathlib.Core.Path.{◌≡◌, refl, ap}
+use mathlib.Core.Path.{◌≡◌, refl, sym, ap, ◌∙◌}
+use Rattle.std.specs.Prelude.{Result, Ok, Err, replicate}
+use Rattle.faults.specs.Numbers.{fault_of}
+use Rattle.faults.specs.declared.Fault.{Fault}
 use lib.ListN.{length, drop, get_or, set, length-append, length-drop}
 use lib.Seq.{sets, get_or-drop}
 use borrow.Author.Tests.{le-leb, lt-leb, eq-eqb, ne_eqb}
 use Rattle.records.specs.Bytes.{little_endian, each_bytes, part}
-use Rattle.records.specs.Reading.{Read, got, fault, byte, field, whole, as_field}
+use Rattle.records.specs.Reading.{Read, got, fault, Body, bind, ◌>>◌, done, byte, field, end, whole}
 use Rattle.records.specs.Front.{record_at, on_body}
 use Rattle.records.specs.Writing.{write_bytes}
-use Rattle.records.specs.declared.Field.TheVariants as one
-use Rattle.records.specs.Outcome.RecordAnswer as record_answer
 use Rattle.records.specs.Outcome.Writing.{Writing}
 use Rattle.records.specs.Outcome.Writing.{Refused}
 use Rattle.records.proofs.BytesLaws.{length_little_endian, length_record, sets_append, record_stored}
-use Rattle.records.proofs.FieldLaws.{one_off, none_left, byte_value, field_value, field_fault}
+use Rattle.records.specs.Results.{value_of, record_result, refused}
+use Rattle.records.specs.declared.Record.{Record}
+use Rattle.records.specs.declared.Refused.{Refused as Refusal}
+use Rattle.records.proofs.FieldLaws.{one_off, none_left, byte_value, field_value}
 use Rattle.records.proofs.FrontLaws.{in_refused, in_record_lem}
+use Rattle.records.proofs.ResultLaws.{record_back, refused_back}
 use Rattle.records.proofs.Trip.{Bytes, length_all, trip_steps}
 use Rattle.records.proofs.TripFields.{trip_number}
 use Rattle.request_bytes.specs.Read.{ids_in, request, request_of, request_at, no_request, as_request, read_request}
-use Rattle.request_bytes.specs.Inner.Ids.{as_ids}
+use Rattle.request_bytes.specs.Inner.Body.{ids_result}
 use Rattle.request_bytes.specs.Write.{request_bytes, write_request}
-use Rattle.request_bytes.specs.declared.answers.RequestReading.TheVariants.{End}
-use Rattle.request_bytes.specs.declared.read.Walk.TheVariants as walk
-use Rattle.request_bytes.specs.declared.read.IdsRead.{IdsRead}
+use Rattle.request_bytes.specs.Outcome.RequestReading.{Done, End}
+use Rattle.request_bytes.specs.Outcome.RequestReading as reading
+use Rattle.request_bytes.specs.declared.Request.{Request}
 use Rattle.laws.proofs.Differ.{constructors_differ}
 
 -- ---- its bytes
@@ -63,13 +68,25 @@ module _ (out : List ℕ) (at command : ℕ) (ids : List ℕ) where
   ids_few h = rw (le-leb _ _ h)
 
 -- ---- the ways through its body, as the returns of `request_of` have them
-ids_fault : (m : Read (List ℕ) ℕ (List ℕ)) (k : ℕ) → (as_ids m).answer ≡ walk.Fault k → m ≡ fault k
-ids_fault (got ids t) k e = constructors_differ (cc)
-ids_fault (fault j) k e = let f : j ≡ k = cc in rw f
 
-ids_got : (m : Read (List ℕ) ℕ (List ℕ)) → (as_ids m).answer ≡ walk.Whole → (ids : List ℕ) × (t : List ℕ) × (m ≡ got ids t)
-ids_got (got ids t) e = (ids, t, refl)
-ids_got (fault j) e = constructors_differ (cc)
+-- a line's fault is that of the whole
+pub stopped : {A B R : Type 0} (answer : Read (List ℕ) ℕ A → R) (out : Fault → R) → ((k : ℕ) → answer (fault k) ≡ out (fault_of k)) →
+    (r : Read (List ℕ) ℕ B) (rest : B → Body A) {f : Fault} → value_of r ≡ Err f → out f ≡ answer (bind r rest)
+stopped answer out told (got v t) rest e = constructors_differ (cc)
+stopped answer out told (fault k) rest {f} e = let g : fault_of k ≡ f = cc in ap out (sym g) ∙ sym (told k)
+
+ids_fault : (m : Read (List ℕ) ℕ (List ℕ)) {f : Fault} → ids_result m ≡ Err f → value_of m ≡ Err f
+ids_fault (got ids t) e = constructors_differ (cc)
+ids_fault (fault k) {f} e = let g : fault_of k ≡ f = cc in ap Err g
+
+ids_got : (m : Read (List ℕ) ℕ (List ℕ)) {array : List ℕ} → ids_result m ≡ Ok array →
+    (ids : List ℕ) × (t : List ℕ) × (m ≡ got ids t) × (array ≡ ids ++ replicate (8 - length ids) 0)
+ids_got (got ids t) {array} e = (ids, t, refl, let g : ids ++ replicate (8 - length ids) 0 ≡ array = cc in sym g)
+ids_got (fault k) e = constructors_differ (cc)
+
+-- what follows a body's lines: its end
+abbrev ended : Read (List ℕ) ℕ Request → Result Request Fault
+ended m = value_of (bind m (λ q. end >> done q))
 
 module _ (b : List ℕ) where
   abbrev ids_on : ℕ → Read (List ℕ) ℕ (List ℕ)
@@ -82,36 +99,40 @@ module _ (b : List ℕ) where
       let l : length (each_bytes (little_endian 2) ids ++ t) ≡ 2 * length ids + length t = rw (length-append, length_ids) in
       (o.1, omega (arith, length-drop 2 b, ap length s))
 
-  pub no_command_lem : (k : ℕ) → as_field (byte b) ≡ one.Fault k → whole request b ≡ fault k
+  pub no_command : {f : Fault} → value_of (byte b) ≡ Err f → Err f ≡ value_of (whole request b)
   unfolding whole request
-  no_command_lem k e = rw (field_fault (byte b) k e)
+  no_command e = stopped ended Err (λ k. refl) (byte b) _ e
 
-  module _ (command : ℕ) (ec : as_field (byte b) ≡ one.Value command) where
-    pub no_count : (k : ℕ) → as_field (field 0 9 4 (drop 1 b)) ≡ one.Fault k → whole request b ≡ fault k
+  module _ (command : ℕ) (ec : value_of (byte b) ≡ Ok command) where
+    pub no_count : {f : Fault} → value_of (field 0 9 4 (drop 1 b)) ≡ Err f → Err f ≡ value_of (whole request b)
     unfolding whole request
-    no_count k e = rw (byte_value b 0 1 command refl ec, field_fault (field 0 9 4 (drop 1 b)) k e)
+    no_count e = rw (byte_value b 0 1 command refl ec) (stopped ended Err (λ k. refl) (field 0 9 4 (drop 1 b)) _ e)
 
-    module _ (count : ℕ) (en : as_field (field 0 9 4 (drop 1 b)) ≡ one.Value count) (r : IdsRead) (er : r ≡ as_ids (ids_on count)) where
-      pub no_ids : (k : ℕ) → r.answer ≡ walk.Fault k → whole request b ≡ fault k
+    module _ (count : ℕ) (en : value_of (field 0 9 4 (drop 1 b)) ≡ Ok count) where
+      pub no_ids : {f : Fault} → ids_result (ids_on count) ≡ Err f → Err f ≡ value_of (whole request b)
       unfolding whole request
-      no_ids k e = rw (byte_value b 0 1 command refl ec, field_value b 1 2 count 0 9 4 refl en, ids_fault (ids_on count) k (rw er at e))
+      no_ids e =
+          rw (byte_value b 0 1 command refl ec, field_value b 1 2 count 0 9 4 refl en)
+          (stopped ended Err (λ k. refl) (ids_on count) _ (ids_fault (ids_on count) e))
 
       -- all ids are read, and then either something is left or nothing is
-      module _ (h : Bytes b) (e : r.answer ≡ walk.Whole) where
-        pub more_left : 2 + 2 * count < length b → whole request b ≡ fault 3
+      module _ (h : Bytes b) (array : List ℕ) (e : ids_result (ids_on count) ≡ Ok array) where
+        pub more_left : 2 + 2 * count < length b → Err (fault_of 3) ≡ value_of (whole request b)
         unfolding whole request
         more_left l =
-            let (ids, t, f) = ids_got (ids_on count) (rw er at e) in
+            let (ids, t, f, g) = ids_got (ids_on count) e in
             let p : 0 < length t = omega (arith, ids_left h count f) in
             rw (byte_value b 0 1 command refl ec, field_value b 1 2 count 0 9 4 refl en, f, one_off t 0 p)
 
-        pub none_more : length b ≤ 2 + 2 * count → whole request b ≡ got (record { command = command; count = count; ids = r.ids }) []
+        pub none_more : length b ≤ 2 + 2 * count → Ok (record { command = command; count = count; ids = array }) ≡ value_of (whole request b)
         unfolding whole request request_of
         none_more l =
-            let (ids, t, f) = ids_got (ids_on count) (rw er at e) in
+            let (ids, t, f, g) = ids_got (ids_on count) e in
             let (n, m) = ids_left h count f in
             let z : t ≡ [] = none_left t 0 (omega arith) in
-            rw (er, byte_value b 0 1 command refl ec, field_value b 1 2 count 0 9 4 refl en, f, z, n)
+            let held : array ≡ ids ++ replicate (8 - count) 0 = rw n at g in
+            rw (byte_value b 0 1 command refl ec, field_value b 1 2 count 0 9 4 refl en, f, z, n)
+            (ap (λ (x : List ℕ). Ok (record { command = command; count = count; ids = x })) held)
 
 -- ---- the record, or the list's end
 module _ (s : List ℕ) (at : ℕ) where
@@ -124,11 +145,26 @@ module _ (s : List ℕ) (at : ℕ) where
     unfolding read_request
     read_on = rw (ne_eqb _ _ e)
 
-    pub read_refused : (k q : ℕ) → record_at s at 64 ≡ record_answer.Refused k q → as_request (fault (record { number = k; at = q })) ≡ read_request s at
+    -- no record of a request, as `record_at` refuses it
+    pub read_refused : {r : Refusal} → record_result (record_at s at 64) ≡ Err r →
+        (k : ℕ) × (q : ℕ) × (r ≡ refused k q) × (record { answer = reading.Refused k q; request = no_request } ≡ read_request s at)
     unfolding request_at
-    read_refused k q f = rw (in_refused s at 64 (λ kind. request) k q f) at read_on
+    read_refused {r} f =
+        let (k, q, g, h) = refused_back (record_at s at 64) f in
+        (k, q, h, rw (in_refused s at 64 (λ kind. request) k q g) at read_on)
 
-    pub read_record : (kind start len : ℕ) → record_at s at 64 ≡ record_answer.Record kind start len →
-        as_request (on_body at (start + len) (whole request (part s start len))) ≡ read_request s at
-    unfolding request_at
-    read_record kind start len f = rw (in_record_lem s at 64 (λ kind. request) kind start len f) at read_on
+    module _ (r : Record) (f : record_result (record_at s at 64) ≡ Ok r) where
+      abbrev its_body : List ℕ
+      its_body = part s r.start r.len
+
+      read_record : as_request (on_body at (r.start + r.len) (whole request its_body)) ≡ read_request s at
+      unfolding request_at
+      read_record = rw (in_record_lem s at 64 (λ kind. request) r.kind r.start r.len (record_back (record_at s at 64) f)) at read_on
+
+      -- its body is at fault, or is a request's
+      pub read_fault : (k : ℕ) → whole request its_body ≡ fault k → record { answer = reading.Refused k at; request = no_request } ≡ read_request s at
+      read_fault k g = rw g at read_record
+
+      pub read_done : (q : Request) (t : List ℕ) → whole request its_body ≡ got q t →
+          record { answer = Done (r.start + r.len); request = q } ≡ read_request s at
+      read_done q t g = rw g at read_record

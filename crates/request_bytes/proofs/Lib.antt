@@ -3,4 +3,6 @@ pub mod Laws
 pub mod Answered
 pub mod RoundTrips
 pub mod Skip
+pub mod Mapped
+pub mod ResultLaws
 pub mod FunctionTrips

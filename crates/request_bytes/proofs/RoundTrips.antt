@@ -12,7 +12,7 @@ use Rattle.records.proofs.TripRecord.{trip_kind}
 use Rattle.request_bytes.specs.Promises.{RoundTrips}
 use Rattle.request_bytes.specs.Read.{ids_of, request_of, request, request_at}
 use Rattle.request_bytes.specs.Write.{request_bytes}
-use Rattle.request_bytes.specs.declared.answers.Request.{Request}
+use Rattle.request_bytes.specs.declared.Request.{Request}
 use Rattle.request_bytes.proofs.Laws.{length_ids}
 
 abbrev pub Low : List ℕ → Type 0

@@ -3,14 +3,18 @@ use Prim.Native.Nat.{ℕ, zero, suc, ◌+◌, ◌*◌, ◌<◌, ◌≤◌}
 use native.Mathlib.Omega.{arith}
 use native.Mathlib.Decide.{dec_lt}
 use mathlib.Core.List.{List, [], ◌∷◌}
-use mathlib.Core.Path.{◌≡◌, refl}
+use mathlib.Core.Path.{◌≡◌, refl, sym, ap}
 use lib.ListN.{length, drop}
-use Rattle.records.specs.Reading.{got, fault, field, whole, as_field}
-use Rattle.records.specs.declared.Field.TheVariants as one
+use Rattle.std.specs.Prelude.{Ok, Err}
+use Rattle.faults.specs.Numbers.{fault_of}
+use Rattle.faults.specs.declared.Fault.{Fault}
+use Rattle.records.specs.Reading.{Read, got, fault, bind, ◌>>◌, done, field, end, whole}
+use Rattle.records.specs.Results.{value_of}
 use Rattle.records.proofs.FieldLaws.{one_off, none_left, field_value}
 use Rattle.request_bytes.specs.Read.{ids_in, request, request_of}
-use Rattle.request_bytes.specs.declared.answers.Request.{Request}
-use Rattle.request_bytes.proofs.Laws.{no_count}
+use Rattle.request_bytes.specs.declared.Request.{Request}
+use Rattle.request_bytes.specs.Inner.Body.{end_result}
+use Rattle.request_bytes.proofs.Laws.{stopped}
 use Rattle.laws.proofs.Differ.{constructors_differ}
 
 -- ---- so many ids, of two bytes each
@@ -50,20 +54,29 @@ module _ (x y : ℕ) (l : List ℕ) (count : ℕ) (en : field 0 9 4 (y ∷ l) �
 
 -- ---- the ways through a body, as the returns of `skip_body` have them: nothing is asked of its first byte, the command number
 
-pub skip_fault : (b : List ℕ) (k : ℕ) → as_field (field 0 9 4 (drop 1 b)) ≡ one.Fault k → whole request b ≡ fault k
+pub skip_fault : (b : List ℕ) {f : Fault} → value_of (field 0 9 4 (drop 1 b)) ≡ Err f → Err f ≡ end_result (whole request b)
 unfolding whole request field
-skip_fault [] k e = let f : 3 ≡ k = cc in rw f
-skip_fault (x ∷ b) k e = no_count (x ∷ b) x refl k e
+skip_fault [] {f} e = let g : f ≡ fault_of 3 = cc in ap Err g
+skip_fault (x ∷ b) e = stopped (λ m. end_result (bind m (λ q. end >> done q))) Err (λ k. refl) (field 0 9 4 b) _ e
 
-pub skip_off : (b : List ℕ) (count : ℕ) → as_field (field 0 9 4 (drop 1 b)) ≡ one.Value count → (length b ≡ 2 + 2 * count → ⊥)
-    → whole request b ≡ fault 3
+pub skip_off : (b : List ℕ) (count : ℕ) → value_of (field 0 9 4 (drop 1 b)) ≡ Ok count → (length b ≡ 2 + 2 * count → ⊥) →
+    Err (fault_of 3) ≡ end_result (whole request b)
 unfolding field
 skip_off [] count e h = constructors_differ (cc)
 skip_off (x ∷ []) count e h = constructors_differ (cc)
-skip_off (x ∷ y ∷ l) count e h = body_off x y l count (field_value (x ∷ y ∷ l) 1 2 count 0 9 4 refl e) (λ m. h (omega arith))
+skip_off (x ∷ y ∷ l) count e h = rw (body_off x y l count (field_value (x ∷ y ∷ l) 1 2 count 0 9 4 refl e) (λ m. h (omega arith)))
 
-pub skip_on : (b : List ℕ) (count : ℕ) → as_field (field 0 9 4 (drop 1 b)) ≡ one.Value count → length b ≡ 2 + 2 * count
-    → (q : Request) × (whole request b ≡ got q [])
+pub skip_on : (b : List ℕ) (count : ℕ) → value_of (field 0 9 4 (drop 1 b)) ≡ Ok count → length b ≡ 2 + 2 * count → Ok tt ≡ end_result (whole request b)
 skip_on [] count e h = absurd (omega arith)
 skip_on (x ∷ []) count e h = absurd (omega arith)
-skip_on (x ∷ y ∷ l) count e h = body_on x y l count (field_value (x ∷ y ∷ l) 1 2 count 0 9 4 refl e) (omega arith)
+skip_on (x ∷ y ∷ l) count e h =
+    let (q, f) = body_on x y l count (field_value (x ∷ y ∷ l) 1 2 count 0 9 4 refl e) (omega arith) in rw f
+
+-- what is skipped is read too, and the other way round
+pub end_back : {A : Type 0} (m : Read (List ℕ) ℕ A) {u : Unit {0}} → end_result m ≡ Ok u → (a : A) × (t : List ℕ) × (m ≡ got a t)
+end_back (got a t) e = (a, t, refl)
+end_back (fault k) e = constructors_differ (cc)
+
+pub end_fault : {A : Type 0} (m : Read (List ℕ) ℕ A) {f : Fault} → end_result m ≡ Err f → (k : ℕ) × (m ≡ fault k) × (f ≡ fault_of k)
+end_fault (got a t) e = constructors_differ (cc)
+end_fault (fault k) {f} e = (k, refl, let g : fault_of k ≡ f = cc in sym g)

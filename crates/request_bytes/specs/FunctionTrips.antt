@@ -7,8 +7,8 @@ use Rattle.records.specs.Outcome.Writing.{Writing}
 use Rattle.records.specs.Outcome.Writing as writing
 use Rattle.request_bytes.specs.Read.{ids_of, request_of, read_request}
 use Rattle.request_bytes.specs.Write.{write_request}
-use Rattle.request_bytes.specs.declared.answers.Request.{Request}
-use Rattle.request_bytes.specs.declared.answers.RequestReading.TheVariants.{Done}
+use Rattle.request_bytes.specs.declared.Request.{Request}
+use Rattle.request_bytes.specs.Outcome.RequestReading.{Done}
 
 pub record FunctionTrips : Type 0 where
   -- Writing then reading gives the same content. A request of a command number (a byte) and ids (of two bytes each) was written at a position, and the

@@ -6,7 +6,7 @@ use Rattle.records.specs.Reading.{got}
 use Rattle.records.specs.Writing.{placed}
 use Rattle.request_bytes.specs.Read.{ids_of, request_of, request_at}
 use Rattle.request_bytes.specs.Write.{request_bytes}
-use Rattle.request_bytes.specs.declared.answers.Request.{Request}
+use Rattle.request_bytes.specs.declared.Request.{Request}
 
 pub record RoundTrips : Type 0 where
   -- Writing then reading gives the same content, wherever the record was written.

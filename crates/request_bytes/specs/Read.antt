@@ -3,9 +3,9 @@
 use Rattle.std.specs.Prelude.{ℕ, ◌-◌, cond, List, [], ◌++◌, eqb, length, take, replicate}
 use Rattle.records.specs.Reading.{Read, got, fault, Body, ◌>>=◌, done, steps, byte, field, number}
 use Rattle.records.specs.Front.{Refusal, in_record}
-use Rattle.request_bytes.specs.declared.answers.Request.{Request}
-use Rattle.request_bytes.specs.declared.answers.RequestReading.TheVariants.{Done, End, Refused}
-use Rattle.request_bytes.specs.declared.answers.RequestAnswer.{RequestAnswer}
+use Rattle.request_bytes.specs.declared.Request.{Request}
+use Rattle.request_bytes.specs.Outcome.RequestReading.{Done, End, Refused}
+use Rattle.request_bytes.specs.Outcome.RequestAnswer.{RequestAnswer}
 
 -- the ids that the array holds, and a request with these ids, with zeros behind them
 abbrev pub ids_of : Request → List ℕ

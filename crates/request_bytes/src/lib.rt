@@ -1,10 +1,20 @@
 // A request's record: read at a position of a list, and written at a position of a buffer.
-#![tactic(auto)]
+#![tactic(auto, unfolding(faults::specs::Numbers::fault_of))]
 
-mod answers;
 mod read;
 mod write;
 
-pub use answers::{Request, RequestAnswer, RequestReading};
 pub use read::{read_request, skip_request};
 pub use write::write_request;
+
+// A command number and up to 8 ids, with zeros behind them.
+#[derive(Clone, Copy, Debug, PartialEq, Eq)]
+pub struct Request {
+    pub command: u8,
+    pub count: u8,
+    pub ids: [u16; Request::LIMIT],
+}
+
+impl Request {
+    pub const LIMIT: usize = 8;
+}

@@ -1,20 +1,20 @@
 // A request's bytes at a position of a lent buffer.
-ghost use Rattle.std.specs.Prelude.{◌≡◌, List, ℕ, ◌≤◌, length};
+ghost use Rattle.std.specs.Prelude.{◌≡◌, List, ℕ, Result, ◌≤◌, length};
 ghost use Rattle.std.proofs.lemmas.List.Edits.{sets};
+ghost use Rattle.faults.specs.declared.Fault.{Fault};
 ghost use Rattle.records.specs.Bytes.{little_endian, each_bytes};
+ghost use Rattle.records.specs.Results.{written};
 ghost use Rattle.request_bytes.specs.Write.{request_bytes, write_request};
 
-use crate::answers::Request;
-use records::Writing;
+use crate::Request;
+use faults::Fault;
 
 fn put_ids(part: &mut [u8], i: usize, ids: &[u16])
     requires { (i ≤ 1024) × (length ids.now ≤ 8) }
     ensures { part.new ≡ sets part.old i (each_bytes (little_endian 2) ids.now) }
 {
-    let mut j: usize = 0;
-    while j < ids.len() {
-        records::put2(part, i + 2 * j, ids[j]);
-        j += 1;
+    for (j, id) in ids.iter().enumerate() {
+        records::put2(part, i + 2 * j, *id);
     }
 }
 
@@ -30,21 +30,16 @@ fn put_request(part: &mut [u8], command: u8, ids: &[u16])
 }
 
 // A request given as a command number and any number of ids, at a position of the output: over 8 ids 4, then 9.
-pub fn write_request(out: &mut [u8], at: usize, command: u8, ids: &[u16]) -> Writing
-    ensures { ◌≡◌ {A = Writing × List ℕ} (result, out.new) (write_request out.old at command ids.now) }
+pub fn write_request(out: &mut [u8], at: usize, command: u8, ids: &[u16]) -> Result<usize, Fault>
+    ensures { ◌≡◌ {A = Result ℕ Fault × List ℕ} (result, out.new) (written (write_request out.old at command ids.now)) }
 {
     let n = ids.len();
     if Request::LIMIT < n {
-        return Writing::Refused { number: 4 };
+        return Err(Fault::Count);
     }
-    if out.len() < at {
-        return Writing::Refused { number: 9 };
-    }
-    if out.len() - at < 6 + 2 * n {
-        return Writing::Refused { number: 9 };
+    if out.len() < at || out.len() - at < 6 + 2 * n {
+        return Err(Fault::NoRoom);
     }
     put_request(&mut out[at..], command, ids);
-    Writing::Done {
-        next: at + 6 + 2 * n,
-    }
+    Ok(at + 6 + 2 * n)
 }

@@ -2,19 +2,24 @@
 -- Assumes nothing.
 use Prim.Native.Nat.{ℕ, zero, suc, ◌+◌, ◌≤◌, ◌<◌}
 use native.Mathlib.Omega.{arith}
+use native.Mathlib.Decide.{dec_lt}
 use mathlib.Core.Path.{◌≡◌, refl, sym, ap, ◌∙◌}
 use mathlib.Core.List.{List, [], ◌∷◌}
 use lib.ListN.{length}
+use Rattle.std.specs.Prelude.{Ok, Err, None}
+use Rattle.records.specs.declared.Refused.{Refused as Refusal}
 use Rattle.records.specs.Outcome.Reading.{Reading}
 use Rattle.records.specs.Outcome.Reading as reading
 use Rattle.request_bytes.specs.Read.{read_request}
-use Rattle.request_bytes.specs.declared.answers.Request.{Request as Form}
-use Rattle.request_bytes.specs.declared.answers.RequestAnswer.{RequestAnswer}
-use Rattle.request_bytes.specs.declared.answers.RequestReading.{RequestReading}
-use Rattle.request_bytes.specs.declared.answers.RequestReading.TheVariants.{Done, End, Refused}
+use Rattle.request_bytes.specs.declared.Request.{Request as Form}
+use Rattle.request_bytes.specs.Outcome.RequestAnswer.{RequestAnswer}
+use Rattle.request_bytes.specs.Outcome.RequestReading.{RequestReading}
+use Rattle.request_bytes.specs.Outcome.RequestReading.{Done, End, Refused}
+use Rattle.request_bytes.specs.Results.{skip_result}
 use Rattle.request_bytes.proofs.Laws.{read_end}
 use Rattle.request_bytes.proofs.Answered.{taken}
 use Rattle.request_list.specs.List.{Listed, asked, on_answer, read_from, read_list}
+use Rattle.laws.proofs.Differ.{constructors_differ}
 
 -- ---- one request of it
 
@@ -110,8 +115,16 @@ module _ {bytes : List ℕ} {n p : ℕ} {l : Listed} (c : Counting bytes n p l) 
   counted : (e : Reading) → l ≡ ended e → n ≡ length (read_list bytes).requests
   counted e o = let z : length l.requests ≡ 0 = ap (λ (x : Listed). length x.requests) o in let t = c.total in omega arith
 
-  pub counted_none : length bytes ≤ p → n ≡ length (read_list bytes).requests
-  counted_none h = counted _ (counting_none h)
+  -- however the reading of the next request ended, if it gave none
+  counted_out : (r : RequestReading) → r ≡ (read_request bytes p).answer → Stops r → n ≡ length (read_list bytes).requests
+  counted_out r e h = by (dec_lt p (length bytes))
+    where
+      by : Dec (p < length bytes) → n ≡ length (read_list bytes).requests
+      by (yes more) = counted _ (counting_stop more _ refl r e h)
+      by (no none) = counted _ (counting_none (omega (arith, none)))
 
-  pub counted_stop : p < length bytes → (r : RequestReading) → r ≡ (read_request bytes p).answer → Stops r → n ≡ length (read_list bytes).requests
-  counted_stop more r e h = counted _ (counting_stop more _ refl r e h)
+  pub counted_none : skip_result (read_request bytes p).answer ≡ Ok None → n ≡ length (read_list bytes).requests
+  counted_none e = counted_out _ refl (λ next f. let g : skip_result (Done next) ≡ Ok None = rw f at e in constructors_differ (cc))
+
+  pub counted_err : {f : Refusal} → skip_result (read_request bytes p).answer ≡ Err f → n ≡ length (read_list bytes).requests
+  counted_err {f} e = counted_out _ refl (λ next d. let g : skip_result (Done next) ≡ Err f = rw d at e in constructors_differ (cc))

@@ -15,10 +15,10 @@ use Rattle.records.specs.Outcome.Reading as reading
 use Rattle.records.proofs.Trip.{Bytes, Stand, stand_none, stand_join, stand_split, stand_part}
 use Rattle.request_bytes.specs.Read.{ids_of, request_of, read_request}
 use Rattle.request_bytes.specs.Write.{request_bytes}
-use Rattle.request_bytes.specs.declared.answers.Request.{Request as Form}
-use Rattle.request_bytes.specs.declared.answers.RequestAnswer.{RequestAnswer}
-use Rattle.request_bytes.specs.declared.answers.RequestReading.{RequestReading}
-use Rattle.request_bytes.specs.declared.answers.RequestReading.TheVariants.{Done, End, Refused}
+use Rattle.request_bytes.specs.declared.Request.{Request as Form}
+use Rattle.request_bytes.specs.Outcome.RequestAnswer.{RequestAnswer}
+use Rattle.request_bytes.specs.Outcome.RequestReading.{RequestReading}
+use Rattle.request_bytes.specs.Outcome.RequestReading.{Done, End, Refused}
 use Rattle.request_bytes.proofs.Laws.{length_request, read_end, read_on}
 use Rattle.request_bytes.proofs.Answered.{read_done, read_ended, read_stopped, taken}
 use Rattle.request_bytes.proofs.RoundTrips.{Fits, low, low_at, fits, ids_of_lem, bytes_of, record_trip}

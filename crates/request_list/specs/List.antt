@@ -7,9 +7,9 @@ use Rattle.records.specs.Outcome.Reading.{Reading}
 use Rattle.records.specs.Outcome.Reading as reading
 use Rattle.request_bytes.specs.Read.{ids_of, read_request}
 use Rattle.request_bytes.specs.Write.{request_bytes}
-use Rattle.request_bytes.specs.declared.answers.Request.{Request as Form}
-use Rattle.request_bytes.specs.declared.answers.RequestReading.{RequestReading}
-use Rattle.request_bytes.specs.declared.answers.RequestReading.TheVariants as request_reading
+use Rattle.request_bytes.specs.declared.Request.{Request as Form}
+use Rattle.request_bytes.specs.Outcome.RequestReading.{RequestReading}
+use Rattle.request_bytes.specs.Outcome.RequestReading as request_reading
 
 -- the requests up to the list's end or to the first record that can't be read, and which of the two it was
 pub record Listed : Type 0 where

@@ -4,19 +4,13 @@
 ghost use Rattle.std.specs.Prelude.{◌≡◌, length};
 ghost use Rattle.request_list.specs.List.{read_list};
 
-use request_bytes::RequestReading;
-
 // How many requests a list has, up to its end or to the first record that can't be read.
 pub fn count_requests(bytes: &[u8]) -> usize
     ensures { result ≡ length (read_list bytes.now).requests }
 {
     let mut n: usize = 0;
     let mut p: usize = 0;
-    while p < bytes.len() {
-        let answer = request_bytes::skip_request(bytes, p);
-        let RequestReading::Done { next } = answer else {
-            return n;
-        };
+    while let Ok(Some(next)) = request_bytes::skip_request(bytes, p) {
         n += 1;
         p = next;
     }

@@ -5,8 +5,8 @@ use Rattle.std.proofs.lemmas.List.Edits.{sets}
 use Rattle.model.specs.Request.{run}
 use Rattle.model.specs.Seats.{Matrix, seats}
 use Rattle.model.specs.declared.Scheme.{Scheme}
-use Rattle.request_bytes.specs.declared.answers.RequestReading.{RequestReading}
-use Rattle.request_bytes.specs.declared.answers.RequestReading.TheVariants.{Done, End, Refused}
+use Rattle.request_bytes.specs.Outcome.RequestReading.{RequestReading}
+use Rattle.request_bytes.specs.Outcome.RequestReading.{Done, End, Refused}
 use Rattle.request_list.specs.List.{read_list}
 use Rattle.engine.specs.List.{run_answer, replies_to, Result}
 use Rattle.engine.specs.Answers.{RunAnswer, Whole, Bad}

@@ -2,8 +2,8 @@
 use Rattle.std.specs.Prelude.{ℕ, ◌*◌, List, [], ◌∷◌, ◌++◌, drop}
 use Rattle.model.specs.Answers.{reply_width, replies_in}
 use Rattle.model.specs.declared.Reply.{Reply}
-use Rattle.request_bytes.specs.declared.answers.RequestReading.{RequestReading}
-use Rattle.request_bytes.specs.declared.answers.RequestReading.TheVariants.{Done, End, Refused}
+use Rattle.request_bytes.specs.Outcome.RequestReading.{RequestReading}
+use Rattle.request_bytes.specs.Outcome.RequestReading.{Done, End, Refused}
 use Rattle.printout.specs.Text.{bad_line, request_line, request_lines, ending_line}
 use Rattle.printout.specs.declared.text.Columns.{Columns}
 use Rattle.request_list.specs.List.{Listed}

@@ -6,8 +6,8 @@ use Rattle.request_list.specs.List.{Listed}
 use Rattle.request_list.proofs.ListLaws.{Counting}
 use Rattle.request_list.proofs.count_requests.Given as goal
 
-abbrev pub invariant-loop-p : goal.invariant-loop-p
-invariant-loop-p l = (rest : Listed) × Counting l.bytes l.n l.p rest
+abbrev pub invariant-loop-next : goal.invariant-loop-next
+invariant-loop-next l = (rest : Listed) × Counting l.bytes l.n l.p rest
 
-abbrev pub decreases-loop-p : goal.decreases-loop-p
-decreases-loop-p l = length l.bytes - l.p
+abbrev pub decreases-loop-next : goal.decreases-loop-next
+decreases-loop-next l = length l.bytes - l.p

@@ -13,6 +13,3 @@ invariant-loop-j l =
     (l.j ≤ l.count) ×
     (v : Looped (λ (u : Unit {0}). number 2) (λ u x. u) l.count tt (drop l.i l.b) l.j tt (drop (l.i + 2 * l.j) l.b)) ×
     (l.ids ≡ map (λ (x : ℕ). x) v.items ++ replicate (8 - l.j) 0)
-
-abbrev pub decreases-loop-j : goal.decreases-loop-j
-decreases-loop-j l = l.count - l.j
