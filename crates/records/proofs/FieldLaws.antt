@@ -2,7 +2,7 @@
 -- have it; and from such a function's result back to the reader. Assumes nothing.
 use Prim.Native.Nat.{ℕ, zero, suc, ◌+◌, ◌*◌, ◌<◌, ◌≤◌}
 use native.Mathlib.Omega.{arith}
-use native.Mathlib.Nat.{add-zero, add_assoc}
+use native.Mathlib.Nat.{add-zero}
 use native.Mathlib.Numerals.{add-one}
 use native.Mathlib.Decide.{dec_lt}
 use mathlib.Core.Bool.{Bool, true, false, cond, ◌&&◌, and-false}
@@ -89,15 +89,17 @@ short w b i {o} {f} e r = by (dec_lt (length b) (i + suc w))
         let q : ◌≡◌ {A = Result (List ℕ) Fault} (Err f) (Ok (take (suc w) (drop i b))) = rw n at r in
         constructors_differ (cc)
 
--- of two and of eight bytes, as the functions join them
+-- of two bytes, and of those that a function looks for
 module _ (b : List ℕ) (i : ℕ) where
-  pub number_two : number_at 2 b i ≡ number2 b i
+  number_two : number_at 2 b i ≡ number2 b i
   unfolding number_at number2
   number_two = omega arith
 
-  pub number_eight : number_at 8 b i ≡ number2 b i + 65536 * number2 b (i + 2) + 4294967296 * (number2 b (i + 4) + 65536 * number2 b (i + 4 + 2))
-  unfolding number_at number2
-  number_eight = simp add_assoc (omega arith)
+  pub two_end : length b < i + 2 → number 2 (drop i b) ≡ fault 3
+  two_end h = number_end 1 b i h
+
+  pub two_there : i + 2 ≤ length b → number 2 (drop i b) ≡ got (number2 b i) (drop (i + 2) b)
+  two_there h = rw (number_there 2 b i h, number_two)
 
   -- where there aren't as many bytes
   pub two_short : {o : Option (List ℕ)} {f : Fault} → o ≡ bytes_in 2 b i → Err f ≡ ok_or o fault.BodyEnd → Err f ≡ value_of (number 2 (drop i b))
