@@ -10,7 +10,7 @@ ghost use Rattle.accepted.specs.Inner.Parts.{cell_fault};
 use crate::checked::{Checked, between};
 use crate::form::{creatable, destroyable, group_of, is_parameter, last_group, least, type_at};
 use model::{Code, Command, Head, Operation, Operations, Parameters, Tests};
-use rights::{Parameter, Right};
+use rights::{Numbered, Parameter, Right};
 
 // Whether each parameter has one of the first m types.
 fn typed(p: Parameters, m: u8) -> bool

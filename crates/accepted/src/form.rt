@@ -8,7 +8,7 @@ ghost use Rattle.accepted.specs.Answers.{before};
 ghost use Rattle.accepted.specs.Inner.Parts.{in_group};
 
 use model::{Code, Operations, Parameters, Tests};
-use rights::{Parameter, ThingType};
+use rights::{Numbered, Parameter, ThingType};
 
 // How many of the first n places an array has.
 pub(crate) fn least(n: usize, places: usize) -> usize

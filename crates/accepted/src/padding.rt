@@ -6,6 +6,7 @@ ghost use Rattle.laws.specs.Check.{padded};
 ghost use Rattle.model.specs.Accepted.{is_enter, zero_test, zero_operation, padded_command, zero_command};
 
 use model::{Code, Command, Operation, Operations, Parameters, Test, Tests};
+use rights::Numbered;
 
 fn padded_types(p: Parameters) -> bool
     ensures { result ≡ padded zero_type 8 p.count p.types }

@@ -8,7 +8,7 @@ ghost use Rattle.plan.specs.Inner.Spot.{spot_by, spot_of};
 
 use accepted::is_create;
 use model::{Operation, Operations, Parameters, Refusal, Things, Verdict};
-use rights::{Parameter, ThingType};
+use rights::{Numbered, Parameter, ThingType};
 
 // The parameters' seats, or the first fault of their ids.
 #[derive(Clone, Copy)]
