@@ -10,7 +10,7 @@ use crate::checked::{between, must};
 use crate::form::{creatable, destroyable, group_of, is_parameter, last_group, type_at};
 use faults::Fault;
 use model::{Code, Command, Head, Operation, Operations, Parameters, Tests};
-use rights::{Parameter, Right};
+use rights::{Numbered, Parameter, Right};
 
 #[tactic(auto, using(crate::proofs::SchemeLaws::checks), unfolding(laws::specs::Check::between, faults::specs::Numbers::fault_of))]
 fn parameters_fault(h: Head, p: Parameters) -> Result<(), Fault>

@@ -6,7 +6,7 @@ ghost use Rattle.model.specs.Accepted.{group, last_group};
 ghost use Rattle.accepted.specs.Answers.{before};
 
 use model::{Code, Operations, Parameters, Tests};
-use rights::{Parameter, ThingType};
+use rights::{Numbered, Parameter, ThingType};
 
 pub(crate) fn is_parameter(p: Parameters, row: Parameter) -> bool
     ensures { result ≡ parameter_below row (length (parameters_of p)) }

@@ -4,6 +4,7 @@ ghost use Rattle.std.specs.Prelude.{◌≡◌};
 ghost use Rattle.model.specs.Accepted.{zero_test, zero_operation, padded_command, zero_command};
 
 use model::{Code, Command, Operation, Test};
+use rights::Numbered;
 
 #[tactic(auto, unfolding(model::specs::Accepted::zero_test))]
 fn zero_test(t: Test) -> bool

@@ -7,7 +7,7 @@ ghost use Rattle.model.specs.Seats.{thing_in, matrix_of};
 ghost use Rattle.model.specs.Accepted.{apart, accepted_seat, all_from, accepted_things, standing, accepted_places, accepted_matrix};
 
 use model::{Head, Things};
-use rights::{RightSet, ThingType};
+use rights::{Numbered, RightSet, ThingType};
 use things::seat_of;
 
 // An id that isn't 0 stands once exactly if the first seat that has it is its own.

@@ -4,7 +4,7 @@ use crate::print::Line;
 use crate::{case, sum, values};
 use hold::{Marked, Marking};
 use model::{Scheme, Things};
-use rights::Parameter;
+use rights::{Numbered, Parameter};
 
 fn all(line: &mut Line, s: Scheme, th: Things, cells: &[u64]) {
     let h = s.head;

@@ -4,6 +4,7 @@ use crate::print::Line;
 use matrix_records::{CellAt, ThingAt};
 use model::{Head, Scheme, Things};
 use records::Kinds;
+use rights::Numbered;
 
 fn scheme_head(line: &mut Line, b: &[u8], at: usize) {
     let answer = command_bytes::read_head(b, at);

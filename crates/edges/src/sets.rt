@@ -2,7 +2,7 @@
 use crate::case;
 use crate::print::Line;
 use records::Kinds;
-use rights::{Parameter, Right, RightSet, ThingType, TypeSet};
+use rights::{Numbered, Parameter, Right, RightSet, ThingType, TypeSet};
 
 fn print_set(line: &mut Line, set: RightSet) {
     line.number(set.0);

@@ -7,7 +7,7 @@ ghost use Rattle.plan.specs.Locate.{unless, located};
 ghost use Rattle.plan.specs.Inner.Spot.{spot_of};
 
 use model::{Code, Operation, Operations, Parameters, Refusal, Things};
-use rights::{Parameter, ThingType};
+use rights::{Numbered, Parameter, ThingType};
 
 #[tactic(auto, unfolding(model::specs::Scheme::creates))]
 fn creates(o: Operation, p: Parameter) -> bool

@@ -1,9 +1,9 @@
 // Rights, types and parameters are three numberings, each a struct of its own; a set of rights goes by value.
 #![tactic(auto)]
 
-ghost use Rattle.std.specs.Prelude.{◌≡◌, eqb};
+ghost use Rattle.std.specs.Prelude.{◌≡◌, ℕ, eqb, ltb};
 ghost use Rattle.rights.specs.Sets.{has, single, enter_right, delete_right, all_rights, complement, count_rights, within};
-ghost use Rattle.rights.specs.Numberings.{right_below, type_below, parameter_below, same_type, same_parameter, zero_right, zero_type, zero_parameter, right_byte, type_byte, parameter_byte, partner_of};
+ghost use Rattle.rights.specs.Numberings.{partner_of};
 
 // A right's number, a type's number, and a parameter's place in a command. None may stand where another belongs.
 #[derive(Clone, Copy, PartialEq, Eq, Debug)]
@@ -23,6 +23,35 @@ pub struct RightSet(pub u64);
 #[derive(Clone, Copy, PartialEq, Eq, Debug)]
 pub struct TypeSet(pub u16);
 
+// What the three numberings have in common: a number each, and what is asked of it. Each impl stands beside its type, and says where the number is.
+pub trait Numbered: Copy {
+    ghost number: { Self → ℕ };
+
+    // The byte that stands for it in a record.
+    fn byte(self) -> u8
+        ensures { result ≡ number self };
+
+    // Whether it is one of the first n.
+    fn below(self, n: u8) -> bool
+        ensures { result ≡ ltb (number self) n }
+    {
+        self.byte() < n
+    }
+
+    fn is(self, other: Self) -> bool
+        ensures { result ≡ eqb (number self) (number other) }
+    {
+        self.byte() == other.byte()
+    }
+
+    // Number 0 also stands in unused places.
+    fn is_zero(self) -> bool
+        ensures { result ≡ eqb (number self) 0 }
+    {
+        self.byte() == 0
+    }
+}
+
 impl Right {
     pub const LIMIT: u8 = 64;
 
@@ -32,26 +61,6 @@ impl Right {
         ensures { result ≡ partner_of n self }
     {
         Right(self.0.saturating_add(n))
-    }
-
-    // Whether it is one of the first n rights.
-    pub fn below(self, n: u8) -> bool
-        ensures { result ≡ right_below self n }
-    {
-        self.0 < n
-    }
-
-    pub fn is_zero(self) -> bool
-        ensures { result ≡ zero_right self }
-    {
-        self.0 == 0
-    }
-
-    // The byte that stands for it in a record.
-    pub fn byte(self) -> u8
-        ensures { result ≡ right_byte self }
-    {
-        self.0
     }
 
     // The set of this right alone; a number that is no right's gives the empty set.
@@ -67,65 +76,39 @@ impl Right {
     }
 }
 
+impl Numbered for Right {
+    ghost number = { λ one. one.0 };
+
+    fn byte(self) -> u8 {
+        self.0
+    }
+}
+
 impl ThingType {
     pub const LIMIT: u8 = 16;
+}
 
-    // Whether it is one of the first m types.
-    pub fn below(self, m: u8) -> bool
-        ensures { result ≡ type_below self m }
-    {
-        self.0 < m
-    }
+impl Numbered for ThingType {
+    ghost number = { λ one. one.0 };
 
-    pub fn is(self, other: ThingType) -> bool
-        ensures { result ≡ same_type self other }
-    {
-        self == other
-    }
-
-    pub fn is_zero(self) -> bool
-        ensures { result ≡ zero_type self }
-    {
-        self.0 == 0
-    }
-
-    pub fn byte(self) -> u8
-        ensures { result ≡ type_byte self }
-    {
+    fn byte(self) -> u8 {
         self.0
     }
 }
 
 impl Parameter {
     pub const LIMIT: u8 = 8;
+}
 
-    // Whether it is one of the first k parameters.
-    pub fn below(self, k: u8) -> bool
-        ensures { result ≡ parameter_below self k }
-    {
-        self.0 < k
-    }
+impl Numbered for Parameter {
+    ghost number = { λ one. one.0 };
 
-    pub fn is(self, other: Parameter) -> bool
-        ensures { result ≡ same_parameter self other }
-    {
-        self == other
-    }
-
-    pub fn is_zero(self) -> bool
-        ensures { result ≡ zero_parameter self }
-    {
-        self.0 == 0
-    }
-
-    pub fn byte(self) -> u8
-        ensures { result ≡ parameter_byte self }
-    {
+    fn byte(self) -> u8 {
         self.0
     }
 }
 
-// Whether bit i of a set's word is 1.
+// Whether bit i of a set's word is 1. A set of types is read in a word of rights, where it has no bit from 16 on.
 #[tactic(auto, using(crate::proofs::Words::has_word, crate::proofs::Words::has_none))]
 fn has_bit(word: u64, i: u8) -> bool
     ensures { result ≡ has word i }

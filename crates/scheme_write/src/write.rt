@@ -13,7 +13,7 @@ ghost use Rattle.scheme_write.specs.Inner.Small.{Small};
 use accepted::scheme_accepted;
 use model::{Code, Command, Head, Operation, Operations, Parameters, Scheme, Test, Tests};
 use records::Writing;
-use rights::{Parameter, Right};
+use rights::{Numbered, Parameter, Right};
 
 fn code_number(code: Code) -> u8
     ensures { result ≡ code_number code }

@@ -18,6 +18,7 @@ rights M = record {
   TypeSet-has = equation (λ κs a z w p i. (p i, z.1));
   TypeSet-within = equation (λ κs a z w p i. (p i, z.1));
   Right-below = equation (λ κs a z w p i. (p i, z.1));
+  Right-is = equation (λ κs a z w p i. (p i, z.1));
   Right-is-zero = equation (λ κs a z w p i. (p i, z.1));
   Right-byte = equation (λ κs a z w p i. (p i, z.1));
   ThingType-below = equation (λ κs a z w p i. (p i, z.1));
