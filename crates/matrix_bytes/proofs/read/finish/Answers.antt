@@ -1,15 +1,13 @@
--- `matrix_bytes::read::finish` meets its contract: the cells that were read replace the lent ones, or nothing does.
+-- `matrix_bytes::read::finish` meets its contract: what was read replaces what was lent, or nothing does.
 -- Assumes nothing.
-use mathlib.Core.Path.{◌∙◌}
-use borrow.Author.Rules.{rules}
-use Rattle.matrix_bytes.proofs.ReadCells.{copied, finish_refused, finish_done}
+use Rattle.std.proofs.lemmas.Result.{err_from_is_err_and}
+use Rattle.matrix_bytes.proofs.ReadCells.{finish_refused, finish_done}
 use Rattle.matrix_bytes.proofs.read.finish.Goals as goal
 
-pub returns-in_default : goal.returns-in_default
-returns-in_default c =
-    finish_refused _ _ _ _ _ _ _ c.read_cells-read.ensures _ _ _ _ c.in_default.is c.number.ensures
-    c.at.ensures _ c.refused.ensures
+pub returns-in_err-next : goal.returns-in_err-next
+returns-in_err-next c =
+    let p = err_from_is_err_and c.from_residual.result c.from_residual.ensures.1 in
+    rw (p.1, p.2) (finish_refused _ _ _ _ _ _ c.in_err-next.ensures)
 
 pub returns : goal.returns
-returns c =
-    finish_done _ _ _ _ _ _ _ c.read_cells-read.ensures _ c.in-Done.is _ (c.copy_cells.ensures ∙ copied _ _ (search rules))
+returns c = rw c.copy_from_slice.ensures.after (finish_done _ _ _ _ _ _ c.in_ok-next.ensures)
