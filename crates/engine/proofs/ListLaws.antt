@@ -3,7 +3,7 @@
 use Prim.Native.Nat.{ℕ, suc, ◌+◌, ◌*◌, ◌≤◌, ◌<◌}
 use native.Mathlib.Omega.{arith}
 use native.Mathlib.Nat.{zero-add, add-zero}
-use mathlib.Core.Path.{◌≡◌, refl, ap, ◌∙◌}
+use mathlib.Core.Path.{◌≡◌, refl, sym, ap, ◌∙◌}
 use mathlib.Core.Bool.{Bool, true, false, ◌&&◌}
 use mathlib.Core.List.{List, [], ◌∷◌, ◌++◌, append-nil, append_assoc}
 use lib.Dec.{T}
@@ -29,10 +29,17 @@ use Rattle.request_bytes.specs.Outcome.RequestReading as request_reading
 use Rattle.request_bytes.specs.Outcome.RequestAnswer.{RequestAnswer}
 use Rattle.request_list.specs.List.{Listed, asked, read_list}
 use Rattle.request_list.proofs.ListLaws.{ended, end_of, Stops, Counting, counting_start, counting_none, counting_stop, counting_on}
-use Rattle.engine.specs.List.{run_answer, replies_to, Result, run_on, run_quietly}
+use Rattle.engine.specs.List.{run_answer, replies_to, Result as Run, run_on, run_quietly}
 use Rattle.engine.specs.Inner.Carry.{step_on}
 use Rattle.engine.specs.Inner.Run.{ended_by, ran_on}
-use Rattle.std.specs.Prelude.{None, Ok, Err}
+use Rattle.std.specs.Prelude.{None, Some, Ok, Err}
+use Rattle.records.specs.declared.Refused.{Refused}
+use Rattle.request_bytes.specs.Results.{request_result}
+use Rattle.request_bytes.proofs.Answered.{read_ended}
+use Rattle.request_bytes.proofs.ResultLaws.{none_back, refusal_back}
+use Rattle.request_bytes.proofs.Laws.{read_end}
+use native.Mathlib.Decide.{dec_lt}
+use Rattle.laws.proofs.Differ.{constructors_differ}
 use Rattle.faults.specs.Numbers.{fault_of}
 use Rattle.faults.specs.declared.Fault.TheVariants.{NotAccepted, NoRoom}
 use Rattle.engine.specs.Answers.{Stepped, RunAnswer}
@@ -132,7 +139,7 @@ module _ {s : Scheme} {first : Matrix} {bytes buffer : List ℕ} {m : Matrix} {o
         held = rw t.left (kept s m (asked a.request) ok r.held);
       }
 
-  abbrev result : RunAnswer → Result
+  abbrev result : RunAnswer → Run
   result answer = record { ran = record { answer = answer; things = m.things }; cells = m.cells; replies = out }
 
   finish : (e : Reading) → r.left ≡ ended e → result (run_answer n e) ≡ ran_on s first bytes buffer
@@ -145,14 +152,36 @@ module _ {s : Scheme} {first : Matrix} {bytes buffer : List ℕ} {m : Matrix} {o
       let told : replies_to s first (read_list bytes).requests ≡ r.said = (rw qs at r.told) ∙ append-nil r.said in
       rw (long, ending, ran, told, ← r.stored)
 
-  pub run_none : length bytes ≤ p
+  run_none : length bytes ≤ p
       → ◌≡◌ {A = Given} (Ok (record { count = n; cut = None }), m.things, m.cells, out) (gives (ran_on s first bytes buffer))
   run_none h = ap gives (finish _ (counting_none r.counting h))
 
-  pub run_stop : p < length bytes → (a : RequestAnswer) → a ≡ read_request bytes p → Stops a.answer
+  run_stop : p < length bytes → (a : RequestAnswer) → a ≡ read_request bytes p → Stops a.answer
       → (now : Ended) → Ok now ≡ ended_as (ended_by n a.answer)
       → ◌≡◌ {A = Given} (Ok now, m.things, m.cells, out) (gives (ran_on s first bytes buffer))
   run_stop more a is h now e = rw (e, ended_same n p a.answer) (ap gives (finish _ (counting_stop r.counting more a is a.answer refl h)))
+
+  -- a reading that gave no further request: the list has ended, or a record ends it that can't be read
+  pub run_end : request_result (read_request bytes p) ≡ Ok None
+      → ◌≡◌ {A = Given} (Ok (record { count = n; cut = None }), m.things, m.cells, out) (gives (ran_on s first bytes buffer))
+  run_end e = let f : p ≡ length bytes = read_ended bytes p (none_back (read_request bytes p) e) in run_none (omega arith)
+
+  pub run_cut : p ≤ length bytes → (x : Refused) → request_result (read_request bytes p) ≡ Err x
+      → ◌≡◌ {A = Given} (Ok (record { count = n; cut = Some x }), m.things, m.cells, out) (gives (ran_on s first bytes buffer))
+  run_cut near x e =
+      let (k, at, f, g) = refusal_back (read_request bytes p) e in
+      run_stop (more k at f) (read_request bytes p) refl (λ next h. let d : request_reading.Refused k at ≡ request_reading.Done next = sym f ∙ h in constructors_differ (cc)) _
+      (ap (λ (y : Refused). Ok (record { count = n; cut = Some y })) g ∙ sym (ap (λ (a : RequestReading). ended_as (ended_by n a)) f))
+    where
+      more : (k at : ℕ) → (read_request bytes p).answer ≡ request_reading.Refused k at → p < length bytes
+      more k at f = by (dec_lt p (length bytes))
+        where
+          by : Dec (p < length bytes) → p < length bytes
+          by (yes h) = h
+          by (no h) =
+              let q : p ≡ length bytes = omega (arith, h) in
+              let d : request_reading.End ≡ request_reading.Refused k at = ap (λ (a : RequestAnswer). a.answer) (read_end bytes p q) ∙ f in
+              constructors_differ (cc)
 
 -- ---- a list as a whole: what refuses it, and what is told of it where nothing does
 

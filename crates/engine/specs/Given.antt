@@ -4,13 +4,14 @@ use Rattle.std.specs.Prelude.{ℕ, List, None, Some, Result, Ok, Err}
 use Rattle.faults.specs.Numbers.{fault_of}
 use Rattle.faults.specs.declared.Fault.{Fault}
 use Rattle.model.specs.declared.Things.{Things}
+use Rattle.records.specs.Results.{refused}
 use Rattle.engine.specs.Answers.{RunAnswer, Whole, Bad, Refused, Ran}
 use Rattle.engine.specs.List.{Result as Run}
 use Rattle.engine.specs.declared.answers.Ended.{Ended}
 
 abbrev pub ended_as : RunAnswer → Result Ended Fault
 ended_as (Whole count) = Ok (record { count = count; cut = None })
-ended_as (Bad count k at) = Ok (record { count = count; cut = Some (record { fault = fault_of k; at = at }) })
+ended_as (Bad count k at) = Ok (record { count = count; cut = Some (refused k at) })
 ended_as (Refused k) = Err (fault_of k)
 
 abbrev pub Given : Type 0

@@ -7,6 +7,6 @@ mod list;
 mod replies;
 mod step;
 
-pub use answers::{Cut, Ended};
+pub use answers::Ended;
 pub use list::{run_list, run_quietly};
 pub use step::request;

@@ -2,31 +2,16 @@
 ghost use Rattle.std.specs.Prelude.{◌≡◌, Ok, T};
 ghost use Rattle.model.specs.Seats.{matrix_of};
 ghost use Rattle.model.specs.Accepted.{accepted_scheme, accepted_matrix};
-ghost use Rattle.engine.specs.Inner.Run.{ended_by, ran_on};
-ghost use Rattle.engine.specs.Given.{Given, Quiet, ended_as, gives, gives_quietly};
+ghost use Rattle.engine.specs.Inner.Run.{ran_on};
+ghost use Rattle.engine.specs.Given.{Given, Quiet, gives, gives_quietly};
 ghost use Rattle.engine.specs.List.{run_on, run_quietly};
 
-use crate::answers::{Cut, Ended};
+use crate::answers::Ended;
 use crate::replies::put_reply;
 use crate::step::{all_accepted, step_on};
 use faults::Fault;
 use model::{Reply, Scheme, Things};
-use request_bytes::RequestReading;
 use request_list::count_requests;
-
-// How a list ends after so many requests, at a reading that gave no further one.
-fn ended(count: usize, answer: RequestReading) -> Ended
-    ensures { Ok result ≡ ended_as (ended_by count answer) }
-{
-    let cut = match answer {
-        RequestReading::Done { next: _ } | RequestReading::End => None,
-        RequestReading::Refused { number, at } => Some(Cut {
-            fault: Fault::from(number),
-            at,
-        }),
-    };
-    Ended { count, cut }
-}
 
 // All requests of a list, on an accepted scheme and matrix; a reply that the buffer has no room for isn't stored.
 fn run_all(s: &Scheme, th: &mut Things, cells: &mut [u64], bytes: &[u8], out: &mut [u8]) -> Ended
@@ -35,20 +20,27 @@ fn run_all(s: &Scheme, th: &mut Things, cells: &mut [u64], bytes: &[u8], out: &m
 {
     let mut n: usize = 0;
     let mut p: usize = 0;
-    while p < bytes.len() {
-        let read = request_bytes::read_request(bytes, p);
-        let q = read.request;
-        let RequestReading::Done { next } = read.answer else {
-            return ended(n, read.answer);
-        };
-        let told = step_on(s, th, cells, q.command, &q.ids[..q.count as usize]);
-        put_reply(out, n, told);
-        n += 1;
-        p = next; // whatever was answered
-    }
-    Ended {
-        count: n,
-        cut: None,
+    loop {
+        match request_bytes::read_request(bytes, p) {
+            Ok(Some((q, next))) => {
+                let told = step_on(s, th, cells, q.command, &q.ids[..q.count as usize]);
+                put_reply(out, n, told);
+                n += 1;
+                p = next; // whatever was answered
+            }
+            Ok(None) => {
+                return Ended {
+                    count: n,
+                    cut: None,
+                };
+            }
+            Err(refused) => {
+                return Ended {
+                    count: n,
+                    cut: Some(refused),
+                };
+            }
+        }
     }
 }
 

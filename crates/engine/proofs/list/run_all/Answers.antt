@@ -1,56 +1,54 @@
 -- What is done and what is left are the whole: each turn is a step of the model, and its reply is stored where there is room.
 -- Assumes nothing.
 use native.Mathlib.Omega.{arith}
-use mathlib.Core.Path.{◌≡◌, sym, ◌∙◌}
-use lib.ListN.{length}
-use Rattle.model.proofs.HeldLaws.{held}
-use Rattle.request_bytes.proofs.Answered.{taken}
+use mathlib.Core.Path.{◌≡◌, refl, sym, ap, ◌∙◌}
+use Rattle.std.specs.Prelude.{Ok}
+use Rattle.request_bytes.specs.Read.{read_request}
+use Rattle.request_bytes.specs.Outcome.RequestReading.{Done}
+use Rattle.request_bytes.proofs.Answered.{Taken, taken}
+use Rattle.request_bytes.proofs.ResultLaws.{request_back}
 use borrow.Author.Rules.{rules}
-use Rattle.engine.proofs.ListLaws.{turned, running_start, same_room, running_on, run_none, run_stop}
+use Rattle.engine.proofs.ListLaws.{turned, running_start, running_on, run_end, run_cut}
 use Rattle.engine.proofs.list.run_all.Goals as goal
-use Rattle.engine.proofs.list.run_all.Goals.{At-loop-p}
+use Rattle.engine.proofs.list.run_all.Goals.{In-Ok-Some}
 
-pub loop-p-init : goal.loop-p-init
-loop-p-init c = running_start c.args.s.now _ _ _ c.requires.1
+pub loop-q-init : goal.loop-q-init
+loop-q-init c = record { near = omega arith; running = running_start c.args.s.now _ _ _ c.requires.1 }
 
--- the cells are as long as they came
-cells-room : (c : At-loop-p) → length c.loop-p.cells ≡ length c.args.cells.now
-cells-room c = (held _ _ c.loop-p.invariant.held).cells.room ∙ sym (held _ _ c.requires.1).cells.room
+-- the request that was read
+read : (c : In-Ok-Some) → read_request c.args.bytes.now c.loop-q.p ≡ record { answer = Done c.in-Ok-Some.next; request = c.in-Ok-Some.q }
+read c = request_back (read_request c.args.bytes.now c.loop-q.p) (sym c.in-Ok-Some.ensures ∙ ap Ok c.in-Ok-Some.field-0-is)
 
-pub shape_of-cells-in_default : goal.shape_of-cells-in_default
-shape_of-cells-in_default c = cells-room (goal.at.shape_of-cells-in_default c).At-loop-p
-
-pub shape_of-out-in_default : goal.shape_of-out-in_default
-shape_of-out-in_default c = same_room c.loop-p.invariant
-
-pub returns-in_default : goal.returns-in_default
-returns-in_default c =
-    run_stop c.loop-p.invariant c.loop-p-test.true _ c.read_request-read.ensures c.in_default.not-Done _ c.ended.ensures
+there : (c : In-Ok-Some) → Taken c.args.bytes.now c.loop-q.p c.in-Ok-Some.next c.in-Ok-Some.q
+there c = taken _ _ _ (sym (read c)) _ refl
 
 pub shared_ref_as_front-step_on : goal.shared_ref_as_front-step_on
-shared_ref_as_front-step_on c = let t = taken _ _ _ c.read_request-read.ensures _ c.in-Done.is in let h = t.held in search rules
+shared_ref_as_front-step_on c = let t = there (goal.at.shared_ref_as_front-step_on c).In-Ok-Some in let h = t.held in search rules
 
 pub step_on-told-requires : goal.step_on-told-requires
-step_on-told-requires c = (c.requires.0, c.loop-p.invariant.held)
+step_on-told-requires c = (c.requires.0, c.loop-q.invariant.running.held)
 
 pub overflow_add-n : goal.overflow_add-n
-overflow_add-n c = omega (arith, c.loop-p.invariant.counting.few, c.loop-p-test.true)
+overflow_add-n c =
+    let t = there (goal.at.overflow_add-n c).In-Ok-Some in
+    omega (arith, c.loop-q.invariant.running.counting.few, t.on, t.inside)
 
-pub loop-p-smaller : goal.loop-p-smaller
-loop-p-smaller c =
-    let t = taken _ _ _ c.read_request-read.ensures _ c.in-Done.is in
-    omega (arith, t.on, t.inside)
+pub loop-q-smaller : goal.loop-q-smaller
+loop-q-smaller c = let t = there (goal.at.loop-q-smaller c).In-Ok-Some in omega (arith, t.on, t.inside)
 
-pub loop-p-preserved : goal.loop-p-preserved
-loop-p-preserved c =
-    running_on c.loop-p.invariant c.requires.0 c.loop-p-test.true _ c.read_request-read.ensures _ c.in-Done.is _ _ (turned _ _ _ _ _ c.step_on-told.ensures)
-    _ c.put_reply.ensures
+pub loop-q-preserved : goal.loop-q-preserved
+loop-q-preserved c =
+    let d = (goal.at.loop-q-preserved c).In-Ok-Some in
+    let t = there d in
+    record {
+      near = t.inside;
+      running =
+          running_on c.loop-q.invariant.running c.requires.0 (omega (arith, t.on, t.inside)) _ (sym (read d)) _ refl _ _
+          (turned _ _ _ _ _ c.step_on-told.ensures) _ c.put_reply.ensures;
+    }
 
-pub shape_of-cells : goal.shape_of-cells
-shape_of-cells c = cells-room (goal.at.shape_of-cells c).At-loop-p
+pub returns-in-Ok-None : goal.returns-in-Ok-None
+returns-in-Ok-None c = run_end c.loop-q.invariant.running (sym c.in-Ok-None.ensures ∙ ap Ok c.in-Ok-None.field-0-is)
 
-pub shape_of-out : goal.shape_of-out
-shape_of-out c = same_room c.loop-p.invariant
-
-pub returns : goal.returns
-returns c = run_none c.loop-p.invariant c.loop-p-test.false
+pub returns-in-Err : goal.returns-in-Err
+returns-in-Err c = run_cut c.loop-q.invariant.running c.loop-q.invariant.near _ (sym c.in-Err.ensures)

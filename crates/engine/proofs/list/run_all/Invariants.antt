@@ -1,14 +1,16 @@
 -- What is done and what is left are the whole: each turn is a step of the model, and its reply is stored where there is room.
 -- Assumes nothing.
-use Prim.Native.Nat.{◌-◌}
+use Prim.Native.Nat.{◌-◌, ◌≤◌}
 use lib.ListN.{length}
 use Rattle.model.specs.Seats.{matrix_of}
 use Rattle.engine.proofs.ListLaws.{Running}
 use Rattle.engine.proofs.list.run_all.Given as goal
 
-abbrev pub invariant-loop-p : goal.invariant-loop-p
-invariant-loop-p l =
-    Running l.s (matrix_of l.initial.th l.initial.cells) l.bytes l.initial.out (matrix_of l.th l.cells) l.out l.n l.p
+abbrev pub invariant-loop-q : goal.invariant-loop-q
+invariant-loop-q l = record {
+  near : l.p ≤ length l.bytes;
+  running : Running l.s (matrix_of l.initial.th l.initial.cells) l.bytes l.initial.out (matrix_of l.th l.cells) l.out l.n l.p;
+}
 
-abbrev pub decreases-loop-p : goal.decreases-loop-p
-decreases-loop-p l = length l.bytes - l.p
+abbrev pub decreases-loop-q : goal.decreases-loop-q
+decreases-loop-q l = length l.bytes - l.p
