@@ -50,7 +50,7 @@ use Rattle.engine.specs.List.{Result, run_answer, of_run, refused_run, run_on, r
 use Rattle.engine.specs.declared.answers.Ran.{Ran as Run}
 use Rattle.engine.specs.declared.answers.RunAnswer.TheVariants as ended
 use Rattle.totals.specs.Totals.{memory_totals, totals_of, of_totals}
-use Rattle.totals.specs.declared.answers.Totals.TheVariants as total
+use Rattle.totals.specs.Outcome as total
 use Rattle.conversion.specs.Conversion.{conversion_fault}
 use Rattle.convert.specs.Convert.{scheme_fault, matrix_fault, converted_by, converted_scheme, cells_by, converted_cells, of_conversion}
 use Rattle.convert.specs.Convert.{written_by, convert_scheme_into, convert_matrix_into}

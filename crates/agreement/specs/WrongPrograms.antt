@@ -15,7 +15,7 @@ use Rattle.convert.specs.Convert.{converted_scheme, converted_cells, convert_sch
 use Rattle.convert.specs.declared.answers.Conversion.{Conversion}
 use Rattle.convert.specs.declared.answers.SchemeConversion.{SchemeConversion}
 use Rattle.totals.specs.Totals.{paper_totals, totals_of}
-use Rattle.totals.specs.declared.answers.Totals.{Totals}
+use Rattle.totals.specs.Outcome.{Outcome}
 
 -- ---- what a request is asked of, and the statement of `request`: the answer with the things, and what the cells then hold
 pub record Asked : Type 0 where
@@ -40,7 +40,7 @@ result_of r = r.0.answer.number
 abbrev pub stated_cells : Held → Conversion × List ℕ
 stated_cells h = converted_cells h.scheme h.matrix
 
-abbrev pub stated_totals : Held → Totals
+abbrev pub stated_totals : Held → Outcome
 stated_totals h = totals_of h.scheme h.matrix
 
 -- ---- the two conversions as bytes: into a buffer, of a scheme, and of a matrix of it
@@ -93,5 +93,5 @@ pub record WrongPrograms : Type 0 where
       ((s : Scheme) (m : Matrix) (qs : List Request) → program (record { scheme = s; matrix = m; requests = qs; called = 1 }) ≡ after_calls s m qs) →
       Meets stated_calls program → ⊥
   -- one that gives invented totals: of any accepted matrix others than the papers' matrix has
-  pub invented_totals : (program : Held → Totals) (h : Held) → T (accepted_scheme h.scheme) → T (accepted_matrix h.scheme.head h.matrix) →
+  pub invented_totals : (program : Held → Outcome) (h : Held) → T (accepted_scheme h.scheme) → T (accepted_matrix h.scheme.head h.matrix) →
       (program h ≡ paper_totals (stands_for h.matrix) → ⊥) → Meets stated_totals program → ⊥

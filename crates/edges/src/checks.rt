@@ -5,6 +5,7 @@ use crate::{case, sum, values};
 use hold::{Marked, Marking};
 use model::{Scheme, Things};
 use rights::{Numbered, Parameter};
+use totals::Totals;
 
 fn all(line: &mut Line, s: Scheme, th: Things, cells: &[u64]) {
     let h = s.head;
@@ -23,12 +24,14 @@ fn command(line: &mut Line, i: usize, s: Scheme) {
 
 fn count(line: &mut Line, s: Scheme, th: Things, cells: &[u64]) {
     match totals::totals(s, th, cells) {
-        totals::Totals::Counted {
-            things,
-            cells,
-            entries,
-        } => line.numbers(&[0, things as u64, cells as u64, entries as u64]),
-        totals::Totals::Refused(x) => line.byte(x),
+        Ok(
+            Totals {
+                things,
+                cells,
+                entries,
+            },
+        ) => line.numbers(&[0, things as u64, cells as u64, entries as u64]),
+        Err(fault) => line.byte(fault.number()),
     }
 }
 

@@ -1,7 +1,6 @@
 // The tasks that read a position of the case's bytes, 70 to 75: requests, records, bodies and fields. And 76: the id that all of them name.
 use crate::print::Line;
 use crate::{case, sum};
-use lines::IdWord;
 use records::{Field, Kinds};
 use request_bytes::RequestReading;
 
@@ -71,8 +70,8 @@ fn fields(line: &mut Line, b: &[u8], at: usize) {
 
 fn id(line: &mut Line, word: &[u8]) {
     match lines::id_in(word) {
-        IdWord::Id(x) => line.numbers(&[1, x as u64]),
-        IdWord::Other => line.number(0),
+        Some(x) => line.numbers(&[1, x as u64]),
+        None => line.number(0),
     }
 }
 

@@ -10,11 +10,11 @@ pub fn id_in(word: &[u8]) -> Option<u16>
         return None;
     }
     let mut n: u32 = 0;
-    for byte in word {
+    for &byte in word {
         if !byte.is_ascii_digit() {
             return None;
         }
-        n = 10 * n + (*byte - b'0') as u32;
+        n = 10 * n + (byte - b'0') as u32;
     }
     Some(u16::try_from(n).unwrap_or(0))
 }

@@ -25,8 +25,8 @@ pub fn put_text(out: &mut [u8], at: usize, text: &[u8]) -> usize
     ensures { ◌≡◌ {A = ℕ × List ℕ} (result, out.new) (put_text out.old at text.now) }
 {
     let mut p = at;
-    for byte in text {
-        p = put_byte(out, p, *byte);
+    for &byte in text {
+        p = put_byte(out, p, byte);
     }
     p
 }
@@ -59,8 +59,8 @@ pub fn put_line(out: &mut [u8], at: usize, numbers: &[u64]) -> usize
         return at;
     };
     let mut p = at;
-    for number in before {
-        p = put_number(out, p, *number, b' ');
+    for &number in before {
+        p = put_number(out, p, number, b' ');
     }
     put_number(out, p, *last, b'\n')
 }

@@ -33,8 +33,7 @@ use Rattle.engine.specs.List.{run_answer, Result, run_on}
 use Rattle.request_list.specs.List.{read_list}
 use Rattle.engine.specs.declared.answers.Ran.{Ran}
 use Rattle.totals.specs.Totals.{totals_of}
-use Rattle.totals.specs.declared.answers.Totals.{Totals}
-use Rattle.totals.specs.declared.answers.Totals.TheVariants as totals
+use Rattle.totals.specs.Outcome as totals
 use Rattle.printout.specs.Text.{heading, bad_line, request_lines, ending_line, end_line, run_text, answers_text, input, on_matrix, matrix_text, on_scheme, play_text}
 use Rattle.printout.specs.Inner.Ending.{list_text}
 use Rattle.printout.specs.declared.text.Columns.TheVariants.{ToTest, ToSteps}
@@ -81,7 +80,7 @@ module _ (s : Scheme) (m : Matrix) (ok : T (accepted_scheme s)) (of : T (accepte
 
   pub printed : (out : List ℕ) → length out ≤ largest → {p : ℕ} {first : List ℕ} → ◌≡◌ {A = ℕ × List ℕ} (p, first) (put_text out 0 (heading ToTest))
       → {q : ℕ} {second : List ℕ} → ◌≡◌ {A = ℕ × List ℕ} (q, second) (put_text first p (list_text ToTest 0 (read_list bytes) (replies_in replies)))
-      → (t : Totals) → t ≡ totals_of s (matrix_of ran.things cells)
+      → (t : totals.Outcome) → t ≡ totals_of s (matrix_of ran.things cells)
       → {r : ℕ} {third : List ℕ} → ◌≡◌ {A = ℕ × List ℕ} (r, third) (put_text second q (end_line t)) → (r, third) ≡ put_text out 0 (run_text s m (read_list bytes))
   unfolding run_text
   printed out far a b t f c =
@@ -93,7 +92,7 @@ module _ (s : Scheme) (m : Matrix) (ok : T (accepted_scheme s)) (of : T (accepte
 
 -- ---- how long the text is at most
 
-few_end : (t : Totals) → length (end_line t) ≤ 67
+few_end : (t : totals.Outcome) → length (end_line t) ≤ 67
 few_end (totals.Counted things cells entries) = omega (arith, few_in_line (things ∷ cells ∷ entries ∷ []))
 few_end (totals.Refused k) = omega (arith, few_bad 0 k)
 

@@ -14,8 +14,7 @@ use Rattle.matrix_bytes.specs.Answers.{read_matrix}
 use Rattle.matrix_bytes.specs.MatrixAnswer.{MatrixAnswer}
 use Rattle.request_list.specs.List.{read_list, Listed}
 use Rattle.totals.specs.Totals.{totals_of}
-use Rattle.totals.specs.declared.answers.Totals.{Totals}
-use Rattle.totals.specs.declared.answers.Totals.TheVariants as totals
+use Rattle.totals.specs.Outcome as totals
 use Rattle.model.specs.Arrays.{no_scheme}
 use Rattle.printout.specs.declared.text.Columns.{Columns}
 use Rattle.printout.specs.declared.text.Columns.TheVariants.{ToTest, ToSteps}
@@ -36,7 +35,7 @@ unfoldable pub bad_line : ℕ → ℕ → List ℕ
 bad_line at k = 98 ∷ 97 ∷ 100 ∷ 32 ∷ line (at ∷ k ∷ [])
 
 -- "end", then the totals
-abbrev pub end_line : Totals → List ℕ
+abbrev pub end_line : totals.Outcome → List ℕ
 end_line (totals.Counted things cells entries) = 101 ∷ 110 ∷ 100 ∷ 32 ∷ line (things ∷ cells ∷ entries ∷ [])
 end_line (totals.Refused k) = bad_line 0 k
 

@@ -1,8 +1,10 @@
 // The words of the printout around its numbers.
 ghost use Rattle.std.specs.Prelude.{ℕ, ◌≡◌, List};
 ghost use Rattle.lines.specs.Put.{put_text};
+ghost use Rattle.totals.specs.Outcome.{outcome_of};
 ghost use Rattle.printout.specs.Text.{heading, bad_line, request_line, end_line};
 
+use faults::Fault;
 use model::Reply;
 use totals::Totals;
 
@@ -53,22 +55,23 @@ pub(crate) fn put_request(
     }
 }
 
-fn put_counted(out: &mut [u8], at: usize, things: u32, cells: u32, entries: u32) -> usize
-    ensures { ◌≡◌ {A = ℕ × List ℕ} (result, out.new) (put_text out.old at (end_line (Totals.Counted things cells entries))) }
+fn put_counted(out: &mut [u8], at: usize, totals: Totals) -> usize
+    ensures { ◌≡◌ {A = ℕ × List ℕ} (result, out.new) (put_text out.old at (end_line (outcome_of (Ok totals)))) }
 {
+    let Totals {
+        things,
+        cells,
+        entries,
+    } = totals;
     let p = lines::put_text(out, at, b"end ");
     lines::put_line(out, p, &[things as u64, cells as u64, entries as u64])
 }
 
-pub(crate) fn put_end(out: &mut [u8], at: usize, totals: Totals) -> usize
-    ensures { ◌≡◌ {A = ℕ × List ℕ} (result, out.new) (put_text out.old at (end_line totals)) }
+pub(crate) fn put_end(out: &mut [u8], at: usize, totals: Result<Totals, Fault>) -> usize
+    ensures { ◌≡◌ {A = ℕ × List ℕ} (result, out.new) (put_text out.old at (end_line (outcome_of totals))) }
 {
     match totals {
-        Totals::Counted {
-            things,
-            cells,
-            entries,
-        } => put_counted(out, at, things, cells, entries),
-        Totals::Refused(number) => put_bad(out, at, 0, number),
+        Ok(totals) => put_counted(out, at, totals),
+        Err(fault) => put_bad(out, at, 0, fault.number()),
     }
 }

@@ -38,12 +38,14 @@ fn check_matrix(rt: &HostRuntime, s: Scheme, matrix: &[u8]) -> Status {
         return refuse(rt, MATRIX, answer.number(), answer.at());
     };
     match totals::totals(s, things, &cells) {
-        Totals::Counted {
-            things,
-            cells,
-            entries,
-        } => ended(say_matrix(rt, things, cells, entries)),
-        Totals::Refused(number) => refuse(rt, MATRIX, number, 0),
+        Ok(
+            Totals {
+                things,
+                cells,
+                entries,
+            },
+        ) => ended(say_matrix(rt, things, cells, entries)),
+        Err(fault) => refuse(rt, MATRIX, fault.number(), 0),
     }
 }
 

@@ -3,7 +3,6 @@ use crate::input::{Input, large_buffer, load};
 use crate::output::{refuse, write_one};
 use crate::said::Status;
 use crate::words::{ID, MATRIX, SCHEME, id_word};
-use lines::IdWord;
 
 const OUT: usize = 5;
 
@@ -33,7 +32,7 @@ fn mark(rt: &HostRuntime, holds: bool, scheme: &[u8], matrix: &[u8], id: u16) ->
 }
 
 pub(crate) fn hold(rt: &HostRuntime, holds: bool) -> Status {
-    let IdWord::Id(id) = id_word(rt, ID) else {
+    let Some(id) = id_word(rt, ID) else {
         return Status::WrongUse;
     };
     let mut scheme = large_buffer();

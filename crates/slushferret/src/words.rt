@@ -1,7 +1,6 @@
 // The words that the program was started with: the tool's name, then its files; an id may stand among them. A file goes by the number of its word; outputs
 // are the last ones.
 use crate::said::{line_room, put_name, tell, tell_of};
-use lines::IdWord;
 use std::env::{Env, FillError};
 
 pub(crate) const TOOL: usize = 1;
@@ -88,7 +87,7 @@ fn clashes(rt: &HostRuntime, output: usize, word: usize) -> bool {
     false
 }
 
-pub(crate) fn id_word(rt: &HostRuntime, word: usize) -> IdWord {
+pub(crate) fn id_word(rt: &HostRuntime, word: usize) -> Option<u16> {
     let mut name = room();
     let n = word_at(rt, word, &mut name);
     lines::id_in(records::body(&name, 0, n))
@@ -96,11 +95,11 @@ pub(crate) fn id_word(rt: &HostRuntime, word: usize) -> IdWord {
 
 // Whether a word is an id; if not, that is told.
 pub(crate) fn is_id(rt: &HostRuntime, word: usize) -> bool {
-    let IdWord::Id(_) = id_word(rt, word) else {
+    let is = id_word(rt, word).is_some();
+    if !is {
         tell_word(rt, word, b": not an id of one to five digits\n");
-        return false;
-    };
-    true
+    }
+    is
 }
 
 fn is_whole(rt: &HostRuntime, word: usize) -> bool {

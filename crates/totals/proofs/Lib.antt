@@ -1,3 +1,4 @@
--- The laws behind the totals, and that they are the papers' (`TrueTotals`).
+-- The laws behind the totals, that they are the papers' (`TrueTotals`), and that the result tells the outcome (`Told`).
 pub mod Sums
 pub mod TrueTotals
+pub mod Told

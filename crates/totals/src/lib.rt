@@ -21,7 +21,7 @@ use rights::RightSet;
 fn count_things(th: Things) -> u32
     ensures { result ≡ sum_of filled th.ids }
 {
-    th.ids.iter().filter(|id| **id != 0).count() as u32
+    th.ids.iter().filter(|&&id| id != 0).count() as u32
 }
 
 #[tactic(auto, using(crate::proofs::Sums::is_counted))]
@@ -29,7 +29,7 @@ fn count_cells(cells: &[u64]) -> u32
     requires { length cells.now ≡ 2304 }
     ensures { result ≡ sum_of filled cells.now }
 {
-    cells.iter().filter(|cell| **cell != 0).count() as u32
+    cells.iter().filter(|&&cell| cell != 0).count() as u32
 }
 
 #[tactic(auto, using(crate::proofs::Sums::is_summed))]
@@ -37,7 +37,7 @@ fn count_entries(cells: &[u64]) -> u32
     requires { sum_by count_rights cells.now < 2 ^ 32 }
     ensures { result ≡ sum_of count_rights cells.now }
 {
-    cells.iter().map(|cell| RightSet(*cell).count()).sum()
+    cells.iter().map(|&cell| RightSet(cell).count()).sum()
 }
 
 // The totals of a matrix of a scheme that some reading gives.
