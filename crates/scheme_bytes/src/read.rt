@@ -10,7 +10,7 @@ use faults::Fault;
 use model::{Command, Head, Scheme};
 use records::Refused;
 
-// The commands in their places, and the position behind the last. The index is a command's place.
+// The commands in their places, and the position behind the last.
 fn read_commands(
     s: &[u8],
     at: usize,
@@ -21,8 +21,8 @@ fn read_commands(
 {
     let mut commands = [no_command(); Scheme::PLACES];
     let mut next = at;
-    for j in 0..h.count as usize {
-        (commands[j], next) = read_command(s, next, h)?;
+    for place in commands[..h.count as usize].iter_mut() {
+        (*place, next) = read_command(s, next, h)?;
     }
     Ok((commands, next))
 }
