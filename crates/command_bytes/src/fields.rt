@@ -52,7 +52,7 @@ fn code_of(code: u8) -> Code
 impl Scope {
     // A right below `rights`, a row that fits and a column below `columns`, in the three bytes from i on. The number is that of a right and of a column
     // out of range.
-    #[tactic(auto, using(crate::proofs::FieldReads::three_lines))]
+    #[tactic(auto, using(crate::proofs::FieldReads::three_lines, crate::proofs::FieldReads::field_within))]
     fn three_at<F: Fn(Parameter) -> bool>(
         self,
         b: &[u8],
@@ -62,8 +62,7 @@ impl Scope {
         number: u8,
         fits: F,
     ) -> Result<Named, Fault>
-        requires place { i ≤ 4096 }
-        requires fit { F.IsAlwaysCallable fits }
+        requires { F.IsAlwaysCallable fits }
         ensures { (fit : Parameter → Bool) → ((p : Parameter) (r : Bool) → F.post fits p r → r ≡ fit p) → result ≡ value_of (three rights self.parameters.count columns number fit (drop i b.now)) }
     {
         let right = records::field_at(b, i, 0, rights, number)?;
@@ -81,7 +80,6 @@ impl Scope {
 
     // A right, a row of a subject type and a column.
     fn named_at(self, b: &[u8], i: usize) -> Result<Named, Fault>
-        requires { i ≤ 4096 }
         ensures { result ≡ value_of (named self.head (parameters_of self.parameters) (drop i b.now)) }
     {
         let subjects = self.head.subjects;
@@ -97,9 +95,8 @@ impl Scope {
     }
 
     // The test in the four bytes from i on.
-    #[tactic(auto, using(crate::proofs::FieldReads::test_lines))]
+    #[tactic(auto, using(crate::proofs::FieldReads::test_lines, crate::proofs::FieldReads::field_within))]
     pub(crate) fn test_at(self, b: &[u8], i: usize) -> Result<Test, Fault>
-        requires { i ≤ 4000 }
         ensures { result ≡ value_of (test self.head (parameters_of self.parameters) (drop i b.now)) }
     {
         let sense = records::field_at(b, i, 0, 2, 6)?;
@@ -122,7 +119,6 @@ impl Scope {
         n: usize,
         code: Code,
     ) -> Result<Named, Fault>
-        requires { i ≤ 4096 }
         ensures { result ≡ value_of (by_code self.head (parameters_of self.parameters) (tests_of t) (before o n) code (drop i b.now)) }
     {
         match code {
@@ -133,7 +129,7 @@ impl Scope {
     }
 
     // The operation in the four bytes from i on, behind the first n of those that were read.
-    #[tactic(auto, using(crate::proofs::FieldReads::operation_lines))]
+    #[tactic(auto, using(crate::proofs::FieldReads::operation_lines, crate::proofs::FieldReads::field_within))]
     pub(crate) fn operation_at(
         self,
         b: &[u8],
@@ -142,7 +138,6 @@ impl Scope {
         o: Operations,
         n: usize,
     ) -> Result<Operation, Fault>
-        requires { i ≤ 4000 }
         ensures { result ≡ value_of (operation self.head (parameters_of self.parameters) (tests_of t) (before o n) (drop i b.now)) }
     {
         let code = code_of(records::field_at(b, i, 1, 5, 6)?);
