@@ -38,7 +38,7 @@ use Rattle.scheme_bytes.proofs.FunctionTrips.{function_trips as scheme_trips}
 use Rattle.matrix_bytes.specs.Answers.{read_matrix}
 use Rattle.matrix_bytes.specs.Content.{reseated}
 use Rattle.matrix_bytes.specs.Write.{matrix_bytes, write_matrix}
-use Rattle.matrix_bytes.specs.declared.answers.MatrixAnswer.{MatrixAnswer}
+use Rattle.matrix_bytes.specs.MatrixAnswer.{MatrixAnswer}
 use Rattle.matrix_bytes.proofs.FunctionTrips.{function_trips as matrix_trips}
 use Rattle.matrix_bytes.proofs.RoundTrips.{round_trips}
 use Rattle.matrix_bytes.proofs.AcceptedTrip.{accepted_iff_read}

@@ -28,7 +28,7 @@ use Rattle.scheme_bytes.specs.declared.answers.SchemeAnswer.{SchemeAnswer}
 use Rattle.scheme_bytes.proofs.FunctionTrips.{function_trips as scheme_trips}
 use Rattle.matrix_bytes.specs.Answers.{as_matrix, read_matrix}
 use Rattle.matrix_bytes.specs.Read.{matrix as reads_matrix}
-use Rattle.matrix_bytes.specs.declared.answers.MatrixAnswer.{MatrixAnswer}
+use Rattle.matrix_bytes.specs.MatrixAnswer.{MatrixAnswer}
 use Rattle.matrix_bytes.proofs.FunctionTrips.{function_trips as matrix_trips}
 use Rattle.engine.specs.List.{run_on}
 use Rattle.robot.specs.Library.{Ran, run_bytes}

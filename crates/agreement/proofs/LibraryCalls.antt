@@ -25,7 +25,7 @@ use Rattle.scheme_bytes.specs.Answers.{read_scheme}
 use Rattle.scheme_bytes.specs.declared.answers.SchemeAnswer.{SchemeAnswer}
 use Rattle.scheme_bytes.proofs.FunctionTrips.{function_trips as scheme_trips}
 use Rattle.matrix_bytes.specs.Answers.{read_matrix}
-use Rattle.matrix_bytes.specs.declared.answers.MatrixAnswer.{MatrixAnswer}
+use Rattle.matrix_bytes.specs.MatrixAnswer.{MatrixAnswer}
 use Rattle.matrix_bytes.proofs.FunctionTrips.{function_trips as matrix_trips}
 use Rattle.convert.specs.Convert.{scheme_fault, matrix_fault, written_by, convert_scheme_into, convert_matrix_into}
 use Rattle.robot.specs.Library.{after_scheme, with_scheme, after_matrix, with_matrix, Wrote, not_written, wrote, convert_scheme_bytes, convert_against, convert_matrix_bytes}

@@ -32,7 +32,7 @@ use Rattle.matrix_records.specs.Answers as matrix_records
 use Rattle.matrix_records.specs.Answers.{kind_at, any_record_at, read_thing, read_cell}
 use Rattle.matrix_bytes.specs.Answers.{read_matrix, read_matrix_by_head, read_rest}
 use Rattle.matrix_bytes.specs.Write.{matrix_bytes, write_matrix, write_matrix_by_head}
-use Rattle.matrix_bytes.specs.declared.answers.MatrixAnswer.{MatrixAnswer}
+use Rattle.matrix_bytes.specs.MatrixAnswer.{MatrixAnswer}
 use Rattle.matrix_bytes.proofs.ReadMatrix.{by_head}
 use Rattle.request_bytes.specs.Read.{read_request}
 use Rattle.request_bytes.specs.Write.{write_request, request_bytes as bytes_of}

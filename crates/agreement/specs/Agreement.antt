@@ -19,7 +19,7 @@ use Rattle.records.specs.Outcome.Writing.{Writing}
 use Rattle.records.specs.Outcome.Writing as writing
 use Rattle.scheme_bytes.specs.Answers.{read_scheme}
 use Rattle.matrix_bytes.specs.Answers.{read_matrix}
-use Rattle.matrix_bytes.specs.declared.answers.MatrixAnswer.{MatrixAnswer}
+use Rattle.matrix_bytes.specs.MatrixAnswer.{MatrixAnswer}
 use Rattle.request_list.specs.List.{read_list, list_bytes}
 use Rattle.engine.specs.List.{Result, run_on}
 use Rattle.engine.specs.declared.answers.RunAnswer.TheVariants.{Whole, Refused}

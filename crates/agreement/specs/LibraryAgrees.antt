@@ -13,7 +13,7 @@ use Rattle.records.specs.Bytes.{each_bytes}
 use Rattle.records.specs.Outcome.Reading.{Done}
 use Rattle.scheme_bytes.specs.Answers.{read_scheme}
 use Rattle.matrix_bytes.specs.Answers.{read_matrix}
-use Rattle.matrix_bytes.specs.declared.answers.MatrixAnswer.{MatrixAnswer}
+use Rattle.matrix_bytes.specs.MatrixAnswer.{MatrixAnswer}
 use Rattle.request_list.specs.List.{read_list, list_bytes}
 use Rattle.robot.specs.Library.{Called, Ran, Wrote, run_bytes, convert_scheme_bytes, convert_matrix_bytes}
 use Rattle.agreement.specs.Replies.{ToEach, obeyed_by, besides_steps}

@@ -21,7 +21,7 @@ use Rattle.matrix_bytes.specs.Answers.{as_matrix, read_matrix}
 use Rattle.matrix_bytes.specs.FunctionTrips.{FunctionTrips}
 use Rattle.matrix_bytes.specs.Read.{matrix}
 use Rattle.matrix_bytes.specs.Write.{matrix_bytes, write_matrix}
-use Rattle.matrix_bytes.specs.declared.answers.MatrixAnswer.{MatrixAnswer}
+use Rattle.matrix_bytes.specs.MatrixAnswer.{MatrixAnswer}
 use Rattle.matrix_bytes.proofs.RoundTrips.{round_trips}
 use Rattle.laws.proofs.Differ.{constructors_differ}
 

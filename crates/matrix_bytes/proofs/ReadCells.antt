@@ -4,32 +4,29 @@ use Prim.Native.Nat.{ℕ, zero, suc, ◌+◌, ◌-◌, ◌≤◌, ◌<◌}
 use native.Mathlib.Omega.{arith}
 use mathlib.Core.List.{List, [], ◌∷◌, ◌++◌, append-nil}
 use mathlib.Core.Path.{◌≡◌, refl, ap, ◌∙◌}
-use lib.ListN.{length, set, replicate, drop_of_length-le}
-use lib.Seq.{sets, sets-eq}
+use lib.Dec.{T}
+use lib.ListN.{length, set, replicate}
 use borrow.Author.Tests.{eq-eqb, ne_eqb}
+use Rattle.std.specs.Prelude.{Result, Ok, Err}
+use Rattle.model.specs.Accepted.{accepted_head}
 use Rattle.model.specs.declared.Head.{Head}
 use Rattle.model.specs.declared.Things.{Things}
 use Rattle.laws.proofs.Differ.{constructors_differ}
 use Rattle.records.specs.Reading.{Read, got, fault, Reader, bind, ◌>>=◌, done}
 use Rattle.records.specs.Front.{Refusal, in_record}
-use Rattle.records.specs.Told.{of_reading, reading_place}
-use Rattle.records.specs.Outcome.Reading.{Reading}
-use Rattle.records.specs.Outcome.Reading as reading
+use Rattle.records.specs.Results.{refused}
+use Rattle.records.specs.declared.Refused as result
 use Rattle.records.proofs.Loop.{prepend, prepend_none, prepend_one}
 use Rattle.matrix_records.specs.Content.{CellRecord, listed}
 use Rattle.matrix_records.specs.Read.{cell, above, start}
-use Rattle.matrix_records.specs.Answers.{last_of, place_in}
-use Rattle.matrix_records.proofs.BodyLaws.{cell_with}
-use Rattle.matrix_records.proofs.ReadBack.{refusal, cell_after}
+use Rattle.matrix_records.specs.Answers.{kind_at, last_of, place_in, found_cell, read_cell}
+use Rattle.matrix_records.specs.declared.answers.FoundCell.{FoundCell}
+use Rattle.matrix_records.proofs.ReadBack.{cell_opened, item_back, item_stopped, cell_after, cell_place_lem}
 use Rattle.matrix_bytes.specs.Read.{to_end}
-use Rattle.matrix_bytes.specs.Inner.Parts.{refused_at, cells_from, stored_in, CellsRead, finished}
-use Rattle.matrix_bytes.specs.declared.answers.MatrixAnswer.{MatrixAnswer}
-
--- a turn's cell, as the answer has it
-abbrev pub CellRead : List ℕ → Head → Things → ℕ → (over by p row column place rights next : ℕ) → Type 0
-CellRead s h th n over by p row column place rights next =
-    (in_record s 32 (λ kind. cell h (listed n th) (last_of over by)) p ≡ got (cell_with row column rights) next) ×
-    (place ≡ place_in n th.ids (cell_with row column rights))
+use Rattle.records.specs.Outcome.Reading.{Done, Refused}
+use Rattle.matrix_bytes.specs.MatrixAnswer.{MatrixAnswer}
+use Rattle.matrix_bytes.specs.Answers.{matrix_result}
+use Rattle.matrix_bytes.specs.Inner.Parts.{cells_from, stored_in, CellsRead}
 
 -- ---- the cells to the end of the input: what holds at position p, behind a cell at (over, by), with the cells that are stored by then
 stored_on : (n : ℕ) (ids cells : List ℕ) (cs : List CellRecord) (c : CellRecord) →
@@ -37,6 +34,18 @@ stored_on : (n : ℕ) (ids cells : List ℕ) (cs : List CellRecord) (c : CellRec
 unfolding stored_in
 stored_on n ids cells [] c = refl
 stored_on n ids cells (d ∷ cs) c = stored_on n ids (set cells (place_in n ids d) d.rights) cs c
+
+-- a turn's cell, its end behind it and in the input, and its place among the 2304
+module _ (s : List ℕ) (h : Head) (th : Things) (n : ℕ) (last : CellRecord) (p : ℕ) (ok : T (accepted_head h)) {f : FoundCell × ℕ}
+    (e : Ok f ≡ read_cell s p 32 h th n last) where
+  cell_found : (c : CellRecord) × (in_record s 32 (λ kind. cell h (listed n th) last) p ≡ got c f.1) × (f.0 ≡ found_cell n th.ids (kind_at s p) c)
+  cell_found = item_back (found_cell n th.ids (kind_at s p)) (in_record s 32 (λ kind. cell h (listed n th) last) p) (e ∙ cell_opened s p 32 h ok th n last)
+
+  pub cell_ends : (p < f.1) × (f.1 ≤ length s)
+  cell_ends = let (c, is, same) = cell_found in cell_after s 32 h th n last p is
+
+  pub cell_near : length th.ids ≡ 48 → f.0.place < 2304
+  cell_near room = let (c, is, same) = cell_found in rw same (cell_place_lem s 32 h th n last p is room)
 
 module _ (s : List ℕ) (h : Head) (th : Things) (n at : ℕ) (cells₀ : List ℕ) where
   abbrev one_cell : CellRecord → Reader ℕ Refusal CellRecord
@@ -85,48 +94,58 @@ module _ (s : List ℕ) (h : Head) (th : Things) (n at : ℕ) (cells₀ : List �
       turned : cells_read ≡ prepend v.items (bind (one_cell (last_of over by) p) (λ c. cells_left (v.fuel - 1) c >>= λ cs. done (c ∷ cs)))
       turned = v.read ∙ ap (prepend v.items) (one_more v.fuel (last_of over by) p l v.enough)
 
-      pub far_on : (row column place rights q : ℕ) → one_cell (last_of over by) p ≡ got (cell_with row column rights) q →
-          place ≡ place_in n th.ids (cell_with row column rights) → SoFar (set cells place rights) row column q
-      far_on row column place rights q e ep =
+      step : CellRecord → ℕ → Type 0
+      step c q = SoFar (set cells (place_in n th.ids c) c.rights) c.row c.column q
+
+      stepped : (c : CellRecord) (q : ℕ) → one_cell (last_of over by) p ≡ got c q → step c q
+      unfolding step
+      stepped c q e =
           let (up, in-s) = cell_after s 32 h th n (last_of over by) p e in
           record {
-            items = v.items ++ cell_with row column rights ∷ [];
+            items = v.items ++ c ∷ [];
             fuel = v.fuel - 1;
             inside = in-s;
             enough = omega (arith, v.enough);
-            read = turned ∙ rw e (prepend_one v.items (cell_with row column rights) (cells_left (v.fuel - 1) (cell_with row column rights) q)
-                ∙ ap (prepend (v.items ++ cell_with row column rights ∷ [])) (only_place (v.fuel - 1) (cell_with row column rights) q));
-            stored = rw (ep, v.stored) (stored_on n th.ids cells₀ v.items (cell_with row column rights));
+            read = turned ∙ rw e (prepend_one v.items c (cells_left (v.fuel - 1) c q) ∙ ap (prepend (v.items ++ c ∷ [])) (only_place (v.fuel - 1) c q));
+            stored = rw v.stored (stored_on n th.ids cells₀ v.items c);
           }
 
-      pub far_stop : (k q : ℕ) → one_cell (last_of over by) p ≡ fault (refusal k q) →
-          CellsRead n th.ids cells₀ (reading.Refused k q) cells cells_read
-      unfolding CellsRead
-      far_stop k q e = rw (turned, e) refl
+      pub far_on : T (accepted_head h) → {f : FoundCell × ℕ} → Ok f ≡ read_cell s p 32 h th n (last_of over by) → SoFar (set cells f.0.place f.0.rights) f.0.row f.0.column f.1
+      unfolding step
+      far_on ok {f} e = go (cell_found s h th n (last_of over by) p ok e)
+        where
+          go : (c : CellRecord) × (one_cell (last_of over by) p ≡ got c f.1) × (f.0 ≡ found_cell n th.ids (kind_at s p) c) →
+              SoFar (set cells f.0.place f.0.rights) f.0.row f.0.column f.1
+          go (c, is, same) = rw same (stepped c f.1 is)
 
-    pub far_all : length s ≤ p → CellsRead n th.ids cells₀ (reading.Done p) cells cells_read
+      pub far_stop : T (accepted_head h) → {r : result.Refused} → Err r ≡ read_cell s p 32 h th n (last_of over by) → CellsRead n th.ids cells₀ (Err r) cells cells_read
+      unfolding CellsRead
+      far_stop ok {r} e = go (item_stopped (found_cell n th.ids (kind_at s p)) (one_cell (last_of over by) p) (e ∙ cell_opened s p 32 h ok th n (last_of over by)))
+        where
+          go : (g : Refusal) × (one_cell (last_of over by) p ≡ fault g) × (r ≡ refused g.number g.at) → CellsRead n th.ids cells₀ (Err r) cells cells_read
+          go (g, is, same) = rw (turned, is, same) refl
+
+    pub far_all : length s ≤ p → CellsRead n th.ids cells₀ (Ok p) cells cells_read
     unfolding CellsRead
     far_all l = rw (v.read, none_more v.fuel (last_of over by) p (omega (arith, v.inside)), append-nil) (refl, v.stored)
 
--- ---- the cells put in the lent ones, or not
-pub copied : (to from : List ℕ) → length from ≡ length to → sets to 0 from ≡ from
-copied to from e =
-    let d : length to ≤ 0 + length from = omega arith in
-    sets-eq from to 0 (omega arith) ∙ rw (drop_of_length-le to {i = 0 + length from} d) (append-nil from)
+-- ---- both put in the lent ones, or not
+abbrev pub refused_at : Things → ℕ → ℕ → MatrixAnswer
+refused_at things k at = record { answer = Refused k at; things = things }
 
-module _ (n : ℕ) (th things : Things) (cells : List ℕ) (r : Reading) (new : List ℕ) where
-  pub finish_refused : (read : Read ℕ Refusal (List CellRecord)) → CellsRead n th.ids (replicate 2304 0) r new read → (k q v w : ℕ) →
-      r ≡ reading.Refused k q → v ≡ (of_reading r).number → w ≡ reading_place r → (m : MatrixAnswer) → m ≡ refused_at things v w →
-      ◌≡◌ {A = MatrixAnswer × List ℕ} (m, cells) (finished n th things cells read)
-  unfolding CellsRead finished
-  finish_refused (got cs j) c k q v w e ev ew m em = let f = c.0 in constructors_differ (cc)
-  finish_refused (fault f) c k q v w e ev ew m em =
-      let x : v ≡ f.number = ev ∙ ap (λ (a : Reading). (of_reading a).number) c in
-      let y : w ≡ f.at = ew ∙ ap reading_place c in
-      rw (em, x, y)
+unfoldable pub finished : ℕ → Things → Things → List ℕ → Read ℕ Refusal (List CellRecord) → MatrixAnswer × List ℕ
+finished n th things cells (got cs next) = (record { answer = Done next; things = th }, stored_in n th.ids (replicate 2304 0) cs)
+finished n th things cells (fault f) = (refused_at things f.number f.at, cells)
 
-  pub finish_done : (read : Read ℕ Refusal (List CellRecord)) → CellsRead n th.ids (replicate 2304 0) r new read → (next : ℕ) → r ≡ reading.Done next →
-      (all : List ℕ) → all ≡ new → ◌≡◌ {A = MatrixAnswer × List ℕ} (record { answer = reading.Done next; things = th }, all) (finished n th things cells read)
+module _ (n : ℕ) (th things : Things) (cells new : List ℕ) where
+  pub finish_refused : {r : result.Refused} (read : Read ℕ Refusal (List CellRecord)) → CellsRead n th.ids (replicate 2304 0) (Err r) new read →
+      ◌≡◌ {A = Result ℕ result.Refused × Things × List ℕ} (Err r, things, cells) (matrix_result (finished n th things cells read))
   unfolding CellsRead finished
-  finish_done (got cs j) v next e all ea = let f = v.0 in let x : next ≡ j = cc in rw (x, ea, v.1)
-  finish_done (fault f) v next e all ea = constructors_differ (cc)
+  finish_refused (got cs j) c = let f = c.0 in constructors_differ (cc)
+  finish_refused (fault f) c = rw c
+
+  pub finish_done : {next : ℕ} (read : Read ℕ Refusal (List CellRecord)) → CellsRead n th.ids (replicate 2304 0) (Ok next) new read →
+      ◌≡◌ {A = Result ℕ result.Refused × Things × List ℕ} (Ok next, th, new) (matrix_result (finished n th things cells read))
+  unfolding CellsRead finished
+  finish_done (got cs j) c = rw (c.0, c.1)
+  finish_done (fault f) c = constructors_differ (cc)

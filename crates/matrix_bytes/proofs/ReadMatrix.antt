@@ -7,7 +7,8 @@ use mathlib.Core.List.{List, [], ◌∷◌}
 use mathlib.Core.Path.{◌≡◌, refl, ◌∙◌}
 use lib.Dec.{T, eqb, leb, eqb→eq, leb→le}
 use lib.ListN.{length, take, replicate}
-use borrow.Author.Tests.{eq-eqb, ne_eqb, le-leb}
+use borrow.Author.Tests.{eq-eqb, le-leb}
+use Rattle.std.specs.Prelude.{Result, Err}
 use Rattle.model.specs.Seats.{find, seat, place}
 use Rattle.model.specs.Accepted.{accepted_head, accepted_scheme}
 use Rattle.model.specs.declared.Head.{Head}
@@ -16,25 +17,32 @@ use Rattle.model.specs.declared.Things.{Things}
 use Rattle.laws.proofs.Bools.{is_true, is_false, and_left, and_right}
 use Rattle.records.specs.Reading.{Read, got, fault, bind, done}
 use Rattle.records.specs.Front.{Refusal, in_record}
+use Rattle.records.specs.Results.{item_of, refused}
+use Rattle.records.specs.declared.Refused as result
 use Rattle.records.proofs.Trip.{Bytes}
 use Rattle.matrix_records.specs.Content.{ThingRecord, CellRecord, listed}
 use Rattle.matrix_records.specs.Read.{cell, start}
-use Rattle.matrix_records.specs.Answers.{place_in}
+use Rattle.matrix_records.specs.Answers.{kind_at, place_in, named, found_head, read_head}
 use Rattle.matrix_records.proofs.Listed.{listed_near}
 use Rattle.matrix_records.proofs.Trips.{CellOk, row_thing_lem, head_sized}
-use Rattle.matrix_records.proofs.ReadBack.{refusal}
+use Rattle.matrix_records.proofs.ReadBack.{head_opened, item_stopped}
 use Rattle.matrix_bytes.specs.Content.{things_from, store, store_all, matrix_from}
 use Rattle.matrix_bytes.specs.Read.{to_end, rest, matrix}
-use Rattle.matrix_bytes.specs.Answers.{as_matrix, read_matrix, read_matrix_by_head, read_rest}
-use Rattle.matrix_bytes.specs.Inner.Parts.{refused_at, cells_from, stored_in, finished}
-use Rattle.matrix_bytes.specs.declared.answers.MatrixAnswer.{MatrixAnswer}
+use Rattle.matrix_bytes.specs.Answers.{as_matrix, matrix_result, read_matrix, read_matrix_by_head, read_rest}
+use Rattle.matrix_bytes.specs.Inner.Parts.{cells_from, stored_in}
+use Rattle.matrix_bytes.specs.MatrixAnswer.{MatrixAnswer}
 use Rattle.matrix_bytes.proofs.Seating.{from_room, from_listed}
 use Rattle.matrix_bytes.proofs.Spots.{EachCell}
 use Rattle.matrix_bytes.proofs.Spots.EachCell.{no as no_cell, also}
 use Rattle.matrix_bytes.proofs.Trips.{cells_back}
 use Rattle.matrix_bytes.proofs.Rising.{taken_rising}
 use Rattle.matrix_bytes.proofs.RoundTrips.{head_passes}
+use Rattle.matrix_bytes.proofs.ReadCells.{refused_at, finished}
 use Rattle.matrix_bytes.proofs.ReadThings.{head_read, things_read, things_end}
+
+-- where a reading ended, and what the lent things and cells then hold
+abbrev Lent : Type 0
+Lent = Result ℕ result.Refused × Things × List ℕ
 
 -- ---- the cells of a matrix stand where its things' seats say
 
@@ -70,10 +78,13 @@ module _ (s : List ℕ) (h : Head) (things : Things) (cells : List ℕ) (highest
   abbrev behind : MatrixAnswer × List ℕ
   behind = as_matrix things cells (rest h highest count s at)
 
-  pub rest_no_things : (k q : ℕ) (m : MatrixAnswer) → m ≡ refused_at things k q → things_read s h highest count at ≡ fault (refusal k q) →
-      ◌≡◌ {A = MatrixAnswer × List ℕ} (m, cells) behind
+  pub rest_no_things : {r : result.Refused} → Err r ≡ item_of (named (things_from highest) (things_read s h highest count at)) →
+      ◌≡◌ {A = Lent} (Err r, things, cells) (matrix_result behind)
   unfolding rest
-  rest_no_things k q m em f = rw (em, f)
+  rest_no_things {r} e = go (item_stopped (things_from highest) (things_read s h highest count at) e)
+    where
+      go : (g : Refusal) × (things_read s h highest count at ≡ fault g) × (r ≡ refused g.number g.at) → ◌≡◌ {A = Lent} (Err r, things, cells) (matrix_result behind)
+      go (g, is, same) = rw (is, same)
 
   module _ (ts : List ThingRecord) (next : ℕ) (f : things_read s h highest count at ≡ got ts next) where
     abbrev its : Things
@@ -89,17 +100,21 @@ module _ (s : List ℕ) (h : Head) (things : Things) (cells : List ℕ) (highest
     same_answer (got cs j) k = rw (k cs j refl)
     same_answer (fault f) k = refl
 
-    pub rest_done : T (accepted_head h) → Bytes s → count ≤ 48 → at ≤ length s → (th : Things) → th ≡ its → (x : MatrixAnswer × List ℕ) →
-        x ≡ finished count th things cells (cells_from s h th count next) → x ≡ behind
+    pub rest_done : T (accepted_head h) → Bytes s → count ≤ 48 → at ≤ length s → (th : Things) → th ≡ its →
+        finished count th things cells (cells_from s h th count next) ≡ behind
     unfolding rest
-    rest_done ok g least near th et x ex =
+    rest_done ok g least near th et =
         let z = head_sized h ok in
         let (rise, n, on) = things_end s h z g highest count at near ts next f in
         let few : length ts ≤ 48 = omega arith in
         let all : listed count its ≡ ts = rw (← n) (from_listed highest ts few (taken_rising h 0 ts rise)) in
         let same = same_answer (cells_on ts) (λ cs j c. stored_all h its count (from_room highest ts).ids
         (rw all (cells_back h z s ts g next j cs on c).2) (replicate 2304 0)) in
-        ex ∙ rw (et, all, f) same
+        rw (et, all, f) same
+
+-- what a test refuses doesn't hold
+pub refuted : {b : Bool} → false ≡ b → T b → ⊥
+refuted e t = rw (← e) at t
 
 -- ---- the same from any position on
 module _ (s : List ℕ) (at : ℕ) (h : Head) (highest count : ℕ) (things : Things) (cells : List ℕ) where
@@ -110,10 +125,9 @@ module _ (s : List ℕ) (at : ℕ) (h : Head) (highest count : ℕ) (things : Th
   abbrev fits : Bool
   fits = accepted_head h && leb count 48 && leb at (length s) && eqb (length cells) 2304
 
-  pub rest_refused : (Fits → ⊥) → (m : MatrixAnswer) → m ≡ refused_at things 27 0 →
-      ◌≡◌ {A = MatrixAnswer × List ℕ} (m, cells) (read_rest s at h highest count things cells)
+  pub rest_refused : (Fits → ⊥) → ◌≡◌ {A = MatrixAnswer × List ℕ} (refused_at things 27 0, cells) (read_rest s at h highest count things cells)
   unfolding read_rest
-  rest_refused n m em = rw (em, is_false fits (λ t. n (search (and_left, and_right, leb→le, eqb→eq))))
+  rest_refused n = rw (is_false fits (λ t. n (search (and_left, and_right, leb→le, eqb→eq))))
 
   pub rest_opened : Fits → read_rest s at h highest count things cells ≡ as_matrix things cells (rest h highest count s at)
   unfolding read_rest
@@ -124,42 +138,32 @@ module _ (s : List ℕ) (h : Head) (things : Things) (cells : List ℕ) where
   abbrev answered : MatrixAnswer × List ℕ
   answered = read_matrix_by_head s h things cells
 
-  pub matrix_room : (length cells ≡ 2304 → ⊥) → (m : MatrixAnswer) → m ≡ refused_at things 27 0 →
-      ◌≡◌ {A = MatrixAnswer × List ℕ} (m, cells) answered
+  pub matrix_refused : (T (accepted_head h) × (length cells ≡ 2304) → ⊥) → ◌≡◌ {A = MatrixAnswer × List ℕ} (refused_at things 27 0, cells) answered
   unfolding read_matrix_by_head
-  matrix_room n m em = rw (em, ne_eqb (length cells) 2304 n) (go (accepted_head h))
-    where
-      go : (b : Bool) → ◌≡◌ {A = MatrixAnswer × List ℕ} (refused_at things 27 0, cells)
-          (cond (b && false) (as_matrix things cells (matrix h s 0)) (refused_at things 27 0, cells))
-      go true = refl
-      go false = refl
+  matrix_refused n = rw (is_false (accepted_head h && eqb (length cells) 2304) (λ t. n (search (and_left, and_right, eqb→eq))))
 
-  pub matrix_head : accepted_head h ≡ false → (m : MatrixAnswer) → m ≡ refused_at things 27 0 →
-      ◌≡◌ {A = MatrixAnswer × List ℕ} (m, cells) answered
-  unfolding read_matrix_by_head
-  matrix_head e m em = rw (em, e)
-
-  module _ (ok : accepted_head h ≡ true) (room : length cells ≡ 2304) where
+  module _ (ok : T (accepted_head h)) (room : length cells ≡ 2304) where
     read_opened : answered ≡ as_matrix things cells (matrix h s 0)
     unfolding read_matrix_by_head
-    read_opened = rw (ok, eq-eqb (length cells) 2304 room)
+    read_opened = rw (is_true (accepted_head h) ok, eq-eqb (length cells) 2304 room)
 
-    pub matrix_no_head : (k q : ℕ) (m : MatrixAnswer) → m ≡ refused_at things k q → head_read s h ≡ fault (refusal k q) →
-        ◌≡◌ {A = MatrixAnswer × List ℕ} (m, cells) answered
+    pub matrix_no_head : {r : result.Refused} → Err r ≡ read_head s 0 128 h → ◌≡◌ {A = Lent} (Err r, things, cells) (matrix_result answered)
     unfolding matrix
-    matrix_no_head k q m em e = rw (em, read_opened, e)
+    matrix_no_head {r} e = go (item_stopped (found_head (kind_at s 0)) (head_read s h) (e ∙ head_opened s 0 128 h ok))
+      where
+        go : (g : Refusal) × (head_read s h ≡ fault g) × (r ≡ refused g.number g.at) → ◌≡◌ {A = Lent} (Err r, things, cells) (matrix_result answered)
+        go (g, is, same) = rw (read_opened, is, same)
 
-    pub matrix_rest : (count highest at : ℕ) → head_read s h ≡ got (record { count = count; highest = highest }) at → (x : MatrixAnswer × List ℕ) →
-        x ≡ as_matrix things cells (rest h highest count s at) → x ≡ answered
+    pub matrix_rest : {count highest at : ℕ} → head_read s h ≡ got (record { count = count; highest = highest }) at →
+        as_matrix things cells (rest h highest count s at) ≡ answered
     unfolding matrix
-    matrix_rest count highest at e x ex = ex ∙ rw (read_opened, e)
+    matrix_rest e = rw (read_opened, e)
 
 -- ---- against a whole scheme
 module _ (bytes : List ℕ) (s : Scheme) (things : Things) (cells : List ℕ) where
-  pub matrix_scheme : accepted_scheme s ≡ false → (m : MatrixAnswer) → m ≡ refused_at things 27 0 →
-      ◌≡◌ {A = MatrixAnswer × List ℕ} (m, cells) (read_matrix bytes s things cells)
+  pub matrix_scheme : accepted_scheme s ≡ false → ◌≡◌ {A = MatrixAnswer × List ℕ} (refused_at things 27 0, cells) (read_matrix bytes s things cells)
   unfolding read_matrix
-  matrix_scheme e m em = rw (em, e)
+  matrix_scheme e = rw e
 
   pub by_head : T (accepted_scheme s) → read_matrix bytes s things cells ≡ read_matrix_by_head bytes s.head things cells
   unfolding read_matrix read_matrix_by_head

@@ -1,7 +1,7 @@
--- The answers of the functions, from what the definitions give: the things, and what the lent cells then hold; where the reading is refused, both as
+-- What the functions give, from what the definitions give: the things, and what the lent cells then hold; where the reading is refused, both as
 -- they stood.
 -- Assumes nothing.
-use Rattle.std.specs.Prelude.{ℕ, cond, ◌&&◌, List, eqb, leb, length}
+use Rattle.std.specs.Prelude.{ℕ, cond, ◌&&◌, List, Result, eqb, leb, length}
 use Rattle.model.specs.Seats.{Matrix}
 use Rattle.model.specs.Accepted.{accepted_head, accepted_scheme}
 use Rattle.model.specs.declared.Head.{Head}
@@ -10,12 +10,18 @@ use Rattle.model.specs.declared.Things.{Things}
 use Rattle.records.specs.Reading.{Read, got, fault}
 use Rattle.records.specs.Front.{Refusal}
 use Rattle.records.specs.Outcome.Reading.{Done, Refused}
+use Rattle.records.specs.Results.{reading_result}
+use Rattle.records.specs.declared.Refused as result
 use Rattle.matrix_bytes.specs.Read.{rest, matrix}
-use Rattle.matrix_bytes.specs.declared.answers.MatrixAnswer.{MatrixAnswer}
+use Rattle.matrix_bytes.specs.MatrixAnswer.{MatrixAnswer}
 
 abbrev pub as_matrix : Things → List ℕ → Read ℕ Refusal Matrix → MatrixAnswer × List ℕ
 as_matrix things cells (got m next) = (record { answer = Done next; things = m.things }, m.cells)
 as_matrix things cells (fault f) = (record { answer = Refused f.number f.at; things = things }, cells)
+
+-- where a reading ended, with what the lent things and cells then hold
+abbrev pub matrix_result : MatrixAnswer × List ℕ → Result ℕ result.Refused × Things × List ℕ
+matrix_result r = (reading_result r.0.answer, r.0.things, r.1)
 
 -- 27 at position 0 for a scheme that no reading gives, and for lent cells that are no 48 times 48
 unfoldable pub read_matrix : List ℕ → Scheme → Things → List ℕ → MatrixAnswer × List ℕ

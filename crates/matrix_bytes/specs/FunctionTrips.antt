@@ -12,7 +12,7 @@ use Rattle.records.specs.Outcome.Writing as writing
 use Rattle.matrix_bytes.specs.Answers.{read_matrix}
 use Rattle.matrix_bytes.specs.Content.{reseated}
 use Rattle.matrix_bytes.specs.Write.{write_matrix}
-use Rattle.matrix_bytes.specs.declared.answers.MatrixAnswer.{MatrixAnswer}
+use Rattle.matrix_bytes.specs.MatrixAnswer.{MatrixAnswer}
 
 pub record FunctionTrips : Type 0 where
   -- Writing then reading gives the same content. A matrix was written against a scheme, and the answer was that it took n bytes. Then a reading of the

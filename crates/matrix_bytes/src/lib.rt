@@ -2,8 +2,7 @@
 // one rechecks only that one.
 #![tactic(auto)]
 
-mod answers;
+mod head;
 mod read;
 
-pub use answers::MatrixAnswer;
 pub use read::{read_matrix, read_matrix_by_head, read_rest};

@@ -1,132 +1,96 @@
 // Reading a matrix: its head, its things one by one, its cells to the end. Nothing that was lent is stored to before all of it has been read.
-ghost use Rattle.std.specs.Prelude.{◌≡◌, List, ℕ, ◌≤◌, ◌<◌, T, length};
-ghost use Rattle.model.specs.Accepted.{accepted_head};
+ghost use Rattle.std.specs.Prelude.{◌≡◌, List, ℕ, Result, ◌≤◌, length};
+ghost use Rattle.model.specs.declared.Things.{Things};
 ghost use Rattle.records.specs.Reading.{steps};
 ghost use Rattle.records.specs.Front.{in_record};
+ghost use Rattle.records.specs.Results.{item_of};
+ghost use Rattle.records.specs.declared.Refused.{Refused};
+ghost use Rattle.matrix_records.specs.Answers.{named};
 ghost use Rattle.matrix_records.specs.Read.{thing};
+ghost use Rattle.matrix_bytes.specs.Content.{things_from};
 ghost use Rattle.matrix_bytes.specs.Read.{rest};
-ghost use Rattle.matrix_bytes.specs.Answers.{as_matrix, read_rest, read_matrix, read_matrix_by_head};
-ghost use Rattle.matrix_bytes.specs.Inner.Parts.{refused_at, as_things, cells_from, CellsRead, finished};
+ghost use Rattle.matrix_bytes.specs.Answers.{as_matrix, matrix_result, read_rest, read_matrix, read_matrix_by_head};
+ghost use Rattle.matrix_bytes.specs.Inner.Parts.{cells_from, CellsRead};
 
-use crate::answers::MatrixAnswer;
+use crate::head::AcceptedHead;
 use accepted::{head_accepted, scheme_accepted};
-use matrix_records::{CellAt, HeadAt, ThingAt};
+use faults::Fault;
 use model::{Head, Scheme, Things};
-use records::{Kinds, Reading};
+use records::{Kinds, Refused};
 
-fn refused(number: u8, at: usize, things: Things) -> MatrixAnswer
-    ensures { result ≡ refused_at things number at }
-{
-    MatrixAnswer {
-        answer: Reading::Refused { number, at },
-        things,
-    }
-}
+// 27, for what no reading gives.
+const NOT_ACCEPTED: Refused = Refused {
+    fault: Fault::NotAccepted,
+    at: 0,
+};
 
 // So many things with ids up to the highest, each behind the one before it, in the seats from the first on.
-fn read_things(s: &[u8], at: usize, h: Head, highest: u16, count: u8) -> MatrixAnswer
-    requires { T (accepted_head h) }
-    ensures { result ≡ as_things highest (steps (λ last. in_record s.now 272 (thing h highest last)) (λ last t. t.id) count 0 at) }
+fn read_things(
+    s: &[u8],
+    at: usize,
+    h: AcceptedHead,
+    highest: u16,
+    count: u8,
+) -> Result<(Things, usize), Refused>
+    ensures { result ≡ item_of (named (things_from highest) (steps (λ last. in_record s.now 272 (thing h.head highest last)) (λ last t. t.id) count 0 at)) }
 {
-    let n = count as usize;
     let mut th = things::no_things();
     th.highest = highest;
     let mut last: u16 = 0;
     let mut p = at;
-    let mut j: usize = 0;
-    while j < n {
-        let found = matrix_records::read_thing(s, p, Kinds(272), h, highest, last);
-        let ThingAt::Good { kind, id, of, next } = found else {
-            return refused(found.number(), found.at(), things::no_things());
-        };
-        th = things::put_thing(th, j, id, of, kind == 8);
-        last = id;
+    for j in 0..count as usize {
+        let (found, next) = matrix_records::read_thing(s, p, Kinds(272), h.head, highest, last)?;
+        th = things::put_thing(th, j, found.id, found.of, found.kind == 8);
+        last = found.id;
         p = next;
-        j += 1;
     }
-    MatrixAnswer {
-        answer: Reading::Done { next: p },
-        things: th,
-    }
+    Ok((th, p))
 }
 
 // All cells to the end of the input, each at its place.
-fn read_cells(s: &[u8], at: usize, h: Head, th: Things, n: usize, cells: &mut [u64]) -> Reading
-    requires { T (accepted_head h) × (at ≤ length s.now) × (length cells.old ≡ 2304) }
-    ensures { CellsRead n th.ids cells.old result cells.new (cells_from s.now h th n at) }
+fn read_cells(
+    s: &[u8],
+    at: usize,
+    h: AcceptedHead,
+    th: Things,
+    n: usize,
+    cells: &mut [u64; Things::CELLS],
+) -> Result<usize, Refused>
+    requires { at ≤ length s.now }
+    ensures { CellsRead n th.ids cells.old result cells.new (cells_from s.now h.head th n at) }
 {
     let mut over: u16 = 0;
     let mut by: u16 = 0;
     let mut p = at;
     while p < s.len() {
-        let found = matrix_records::read_cell(s, p, Kinds(32), h, th, n, over, by);
-        let CellAt::Good {
-            kind: _,
-            row,
-            column,
-            place,
-            rights,
-            next,
-        } = found
-        else {
-            return Reading::Refused {
-                number: found.number(),
-                at: found.at(),
-            };
-        };
-        cells[place] = rights;
-        over = row;
-        by = column;
+        let (found, next) = matrix_records::read_cell(s, p, Kinds(32), h.head, th, n, over, by)?;
+        cells[found.place] = found.rights;
+        over = found.row;
+        by = found.column;
         p = next;
     }
-    Reading::Done { next: p }
-}
-
-// The cells behind the things, into the lent ones.
-fn finish(
-    s: &[u8],
-    at: usize,
-    h: Head,
-    th: Things,
-    n: usize,
-    things: Things,
-    cells: &mut [u64],
-) -> MatrixAnswer
-    requires { T (accepted_head h) × (at ≤ length s.now) × (length cells.old ≡ 2304) }
-    ensures { ◌≡◌ {A = MatrixAnswer × List ℕ} (result, cells.new) (finished n th things cells.old (cells_from s.now h th n at)) }
-{
-    let mut new = [0u64; Things::CELLS];
-    let read = read_cells(s, at, h, th, n, &mut new);
-    let Reading::Done { next } = read else {
-        return refused(read.number(), read.at(), things);
-    };
-    things::copy_cells(cells, &new);
-    MatrixAnswer {
-        answer: Reading::Done { next },
-        things: th,
-    }
+    Ok(p)
 }
 
 // What stands behind a head that states so many things and this highest id: the things, and the cells behind them, into the lent ones.
 fn rest_of(
     s: &[u8],
     at: usize,
-    h: Head,
+    h: AcceptedHead,
     highest: u16,
     count: u8,
-    things: Things,
+    things: &mut Things,
     cells: &mut [u64],
-) -> MatrixAnswer
-    requires { T (accepted_head h) × (count ≤ 48) × (at ≤ length s.now) × (length cells.old ≡ 2304) }
-    ensures { ◌≡◌ {A = MatrixAnswer × List ℕ} (result, cells.new) (as_matrix things cells.old (rest h highest count s.now at)) }
+) -> Result<usize, Refused>
+    requires { (count ≤ 48) × (at ≤ length s.now) × (length cells.old ≡ 2304) }
+    ensures { ◌≡◌ {A = Result ℕ Refused × Things × List ℕ} (result, things.new, cells.new) (matrix_result (as_matrix things.old cells.old (rest h.head highest count s.now at))) }
 {
-    let read = read_things(s, at, h, highest, count);
-    let answer = read.answer;
-    let th = read.things;
-    let Reading::Done { next } = answer else {
-        return refused(answer.number(), answer.at(), things);
-    };
-    finish(s, next, h, th, count as usize, things, cells)
+    let (th, start) = read_things(s, at, h, highest, count)?;
+    let mut new = [0u64; Things::CELLS];
+    let next = read_cells(s, start, h, th, count as usize, &mut new)?;
+    *things = th;
+    cells.copy_from_slice(&new);
+    Ok(next)
 }
 
 // The same from any position on, for callers that read a head of their own: 27 for what no reading of a head gives.
@@ -136,56 +100,64 @@ pub fn read_rest(
     h: Head,
     highest: u16,
     count: u8,
-    things: Things,
+    things: &mut Things,
     cells: &mut [u64],
-) -> MatrixAnswer
-    ensures { ◌≡◌ {A = MatrixAnswer × List ℕ} (result, cells.new) (read_rest s.now at h highest count things cells.old) }
+) -> Result<usize, Refused>
+    ensures { ◌≡◌ {A = Result ℕ Refused × Things × List ℕ} (result, things.new, cells.new) (matrix_result (read_rest s.now at h highest count things.old cells.old)) }
 {
-    if cells.len() != Things::CELLS {
-        return refused(27, 0, things);
+    if cells.len() != Things::CELLS
+        || s.len() < at
+        || Things::LIMIT < count as usize
+        || !head_accepted(h)
+    {
+        return Err(NOT_ACCEPTED);
     }
-    if s.len() < at {
-        return refused(27, 0, things);
-    }
-    if Things::LIMIT < count as usize {
-        return refused(27, 0, things);
-    }
-    if !head_accepted(h) {
-        return refused(27, 0, things);
-    }
-    rest_of(s, at, h, highest, count, things, cells)
+    rest_of(
+        s,
+        at,
+        AcceptedHead { head: h },
+        highest,
+        count,
+        things,
+        cells,
+    )
 }
 
-// The whole of an input as a matrix of a scheme; where it is refused, the things come back as they were handed in, and the cells stay.
-pub fn read_matrix(s: &[u8], scheme: Scheme, things: Things, cells: &mut [u64]) -> MatrixAnswer
-    ensures { ◌≡◌ {A = MatrixAnswer × List ℕ} (result, cells.new) (read_matrix s.now scheme things cells.old) }
+// The whole of an input as a matrix of a scheme; where it is refused, the things and the cells stay.
+pub fn read_matrix(
+    s: &[u8],
+    scheme: Scheme,
+    things: &mut Things,
+    cells: &mut [u64],
+) -> Result<usize, Refused>
+    ensures { ◌≡◌ {A = Result ℕ Refused × Things × List ℕ} (result, things.new, cells.new) (matrix_result (read_matrix s.now scheme things.old cells.old)) }
 {
     if !scheme_accepted(scheme) {
-        return refused(27, 0, things);
+        return Err(NOT_ACCEPTED);
     }
-    let h = scheme.head;
-    read_matrix_by_head(s, h, things, cells)
+    read_matrix_by_head(s, scheme.head, things, cells)
 }
 
 // The same against a scheme's head alone, for callers that know the scheme to be accepted: 27 for a head that no reading gives.
-pub fn read_matrix_by_head(s: &[u8], h: Head, things: Things, cells: &mut [u64]) -> MatrixAnswer
-    ensures { ◌≡◌ {A = MatrixAnswer × List ℕ} (result, cells.new) (read_matrix_by_head s.now h things cells.old) }
+pub fn read_matrix_by_head(
+    s: &[u8],
+    h: Head,
+    things: &mut Things,
+    cells: &mut [u64],
+) -> Result<usize, Refused>
+    ensures { ◌≡◌ {A = Result ℕ Refused × Things × List ℕ} (result, things.new, cells.new) (matrix_result (read_matrix_by_head s.now h things.old cells.old)) }
 {
-    if cells.len() != Things::CELLS {
-        return refused(27, 0, things);
+    if cells.len() != Things::CELLS || !head_accepted(h) {
+        return Err(NOT_ACCEPTED);
     }
-    if !head_accepted(h) {
-        return refused(27, 0, things);
-    }
-    let head = matrix_records::read_head(s, 0, Kinds(128), h);
-    let HeadAt::Good {
-        kind: _,
-        count,
-        highest,
+    let (head, next) = matrix_records::read_head(s, 0, Kinds(128), h)?;
+    rest_of(
+        s,
         next,
-    } = head
-    else {
-        return refused(head.number(), head.at(), things);
-    };
-    rest_of(s, next, h, highest, count, things, cells)
+        AcceptedHead { head: h },
+        head.highest,
+        head.count,
+        things,
+        cells,
+    )
 }

@@ -5,9 +5,10 @@ use Prim.Native.Nat.{ℕ, ◌^◌, ◌≤◌, ◌<◌}
 use native.Mathlib.Omega.{arith}
 use mathlib.Core.Bool.{Bool, true, false, not}
 use mathlib.Core.List.{List, []}
-use mathlib.Core.Path.{◌≡◌, refl, ap, ◌∙◌}
+use mathlib.Core.Path.{◌≡◌, refl}
 use lib.Dec.{T, eqb, leb, ltb}
 use lib.ListN.{length}
+use Rattle.std.specs.Prelude.{Ok, Err}
 use Rattle.rights.specs.Numberings.{type}
 use Rattle.rights.specs.declared.ThingType.{ThingType}
 use Rattle.laws.specs.Check.{is_some}
@@ -19,23 +20,16 @@ use Rattle.laws.proofs.Differ.{constructors_differ}
 use Rattle.records.specs.Bytes.{part}
 use Rattle.records.specs.Reading.{Read, got, fault, Reader, ◌>>=◌, ◌>>◌, done, check, number, field}
 use Rattle.records.specs.Front.{Refusal, in_record}
+use Rattle.records.specs.Results.{item_of, refused}
+use Rattle.records.specs.declared.Refused.{Refused}
 use Rattle.records.proofs.Trip.{never, got_same, bind_got}
 use Rattle.records.proofs.TripRecord.{in_record_back}
-use Rattle.matrix_records.specs.Content.{Stated, ThingRecord, CellRecord, listed}
+use Rattle.matrix_records.specs.Content.{ThingRecord, CellRecord, listed}
 use Rattle.matrix_records.specs.Read.{head, thing, cell, thing_with, is_row, above}
-use Rattle.matrix_records.specs.Answers.{kind_at, as_head_at, as_thing_at, as_cell_at, place_in, read_head, read_thing, read_cell}
-use Rattle.matrix_records.specs.Told.{of_head, of_thing, of_cell, head_place, thing_place, cell_place}
-use Rattle.matrix_records.specs.declared.answers.HeadAt.{HeadAt}
-use Rattle.matrix_records.specs.declared.answers.HeadAt.TheVariants as head_at
-use Rattle.matrix_records.specs.declared.answers.ThingAt.{ThingAt}
-use Rattle.matrix_records.specs.declared.answers.ThingAt.TheVariants as thing_at
-use Rattle.matrix_records.specs.declared.answers.CellAt.{CellAt}
-use Rattle.matrix_records.specs.declared.answers.CellAt.TheVariants as cell_at
+use Rattle.matrix_records.specs.Answers.{kind_at, named, found_thing, as_head_at, as_thing_at, as_cell_at, place_in, read_head, read_thing, read_cell}
+use Rattle.matrix_records.specs.declared.answers.FoundThing.{FoundThing}
 use Rattle.matrix_records.proofs.Listed.{listed_near}
 use Rattle.matrix_records.proofs.BodyLaws.{cell_with}
-
-abbrev pub refusal : ℕ → ℕ → Refusal
-refusal k q = record { number = k; at = q }
 
 -- ---- against a head that a reading gives, nothing is left of 27
 module _ (s : List ℕ) (at kinds : ℕ) (h : Head) (ok : T (accepted_head h)) where
@@ -53,24 +47,21 @@ module _ (s : List ℕ) (at kinds : ℕ) (h : Head) (ok : T (accepted_head h)) w
   unfolding read_cell
   cell_opened th n last = rw (is_true (accepted_head h) ok)
 
--- ---- a head
-module _ (kind : ℕ) (m : Read ℕ Refusal Stated) (r : HeadAt) (er : r ≡ as_head_at kind m) where
-  pub head_read_lem : (k count highest next : ℕ) → r ≡ head_at.Good k count highest next → m ≡ got (record { count = count; highest = highest }) next
-  head_read_lem k count highest next e = go m er
+-- ---- from what a record's reader gives; `f` is how it has what was read
+module _ {A B : Type 0} (f : A → B) (m : Read ℕ Refusal A) where
+  pub item_back : {p : B × ℕ} → Ok p ≡ item_of (named f m) → (a : A) × (m ≡ got a p.1) × (p.0 ≡ f a)
+  item_back {p} e = go m e
     where
-      go : (m : Read ℕ Refusal Stated) → r ≡ as_head_at kind m → m ≡ got (record { count = count; highest = highest }) next
-      go (got st j) er = let x : count ≡ st.count = cc in let y : highest ≡ st.highest = cc in let z : next ≡ j = cc in rw (x, y, z)
-      go (fault f) er = constructors_differ (cc)
+      go : (m : Read ℕ Refusal A) → Ok p ≡ item_of (named f m) → (a : A) × (m ≡ got a p.1) × (p.0 ≡ f a)
+      go (got a j) e = let x : p ≡ (f a, j) = cc in (a, rw x, rw x)
+      go (fault g) e = constructors_differ (cc)
 
-  pub head_stopped : (k q v w : ℕ) → r ≡ head_at.Refused k q → v ≡ (of_head r).number → w ≡ head_place r → m ≡ fault (refusal v w)
-  head_stopped k q v w e ev ew = go m er
+  pub item_stopped : {r : Refused} → Err r ≡ item_of (named f m) → (g : Refusal) × (m ≡ fault g) × (r ≡ refused g.number g.at)
+  item_stopped {r} e = go m e
     where
-      go : (m : Read ℕ Refusal Stated) → r ≡ as_head_at kind m → m ≡ fault (refusal v w)
-      go (got st j) er = constructors_differ (cc)
-      go (fault f) er =
-          let x : v ≡ f.number = ev ∙ ap (λ (a : HeadAt). (of_head a).number) er in
-          let y : w ≡ f.at = ew ∙ ap head_place er in
-          rw (x, y)
+      go : (m : Read ℕ Refusal A) → Err r ≡ item_of (named f m) → (g : Refusal) × (m ≡ fault g) × (r ≡ refused g.number g.at)
+      go (got a j) e = constructors_differ (cc)
+      go (fault g) e = (g, refl, cc)
 
 -- ---- what holds of all that a reader gives
 module _ {I F A : Type 0} where
@@ -111,57 +102,14 @@ module _ (s : List ℕ) (at kinds : ℕ) (h : Head) (highest last : ℕ) where
       let (kind, start, len, f, r, next) = in_record_back s kinds (thing h highest last) at e in
       rw (← f.its_kind) (thing_marked h highest last kind (part s start len) t [] r)
 
-  pub thing_read : (r : ThingAt) → r ≡ as_thing_at (kind_at s at) read_as → (k id : ℕ) (of : ThingType) (next : ℕ) → r ≡ thing_at.Good k id of next →
-      read_as ≡ got (thing_with_mark id of (eqb k 8)) next
-  thing_read r er k id of next e = go read_as refl
+  pub thing_read : {p : FoundThing × ℕ} → Ok p ≡ as_thing_at (kind_at s at) read_as → read_as ≡ got (thing_with_mark p.0.id p.0.of (eqb p.0.kind 8)) p.1
+  thing_read {p} e = go (item_back (found_thing (kind_at s at)) read_as e)
     where
-      go : (m : Read ℕ Refusal ThingRecord) → read_as ≡ m → m ≡ got (thing_with_mark id of (eqb k 8)) next
-      go (got t j) em =
-          let same : r ≡ thing_at.Good (kind_at s at) t.id t.thing.type j = rw em at er in
-          let x : id ≡ t.id = cc in
-          let y : of ≡ t.thing.type = cc in
-          let z : next ≡ j = cc in
-          let w : k ≡ kind_at s at = cc in
+      go : (t : ThingRecord) × (read_as ≡ got t p.1) × (p.0 ≡ found_thing (kind_at s at) t) →
+          read_as ≡ got (thing_with_mark p.0.id p.0.of (eqb p.0.kind 8)) p.1
+      go (t, em, ef) =
           let v : t.thing.on_hold ≡ eqb (kind_at s at) 8 = unfold MarkedBy in kind_marks em in
-          rw (x, y, z, w, ← v)
-      go (fault f) em = let same : r ≡ thing_at.Refused f.number f.at = rw em at er in constructors_differ (cc)
-
-module _ (kind : ℕ) (m : Read ℕ Refusal ThingRecord) (r : ThingAt) (er : r ≡ as_thing_at kind m) where
-  pub thing_stopped : (k q v w : ℕ) → r ≡ thing_at.Refused k q → v ≡ (of_thing r).number → w ≡ thing_place r → m ≡ fault (refusal v w)
-  thing_stopped k q v w e ev ew = go m er
-    where
-      go : (m : Read ℕ Refusal ThingRecord) → r ≡ as_thing_at kind m → m ≡ fault (refusal v w)
-      go (got t j) er = constructors_differ (cc)
-      go (fault f) er =
-          let x : v ≡ f.number = ev ∙ ap (λ (a : ThingAt). (of_thing a).number) er in
-          let y : w ≡ f.at = ew ∙ ap thing_place er in
-          rw (x, y)
-
--- ---- a cell
-module _ (n : ℕ) (ids : List ℕ) (kind : ℕ) (m : Read ℕ Refusal CellRecord) (r : CellAt) (er : r ≡ as_cell_at n ids kind m) where
-  pub cell_read : (k row column place rights next : ℕ) → r ≡ cell_at.Good k row column place rights next →
-      let c = cell_with row column rights in (m ≡ got c next) × (place ≡ place_in n ids c)
-  cell_read k row column place rights next e = go m er
-    where
-      go : (m : Read ℕ Refusal CellRecord) → r ≡ as_cell_at n ids kind m →
-          let c = cell_with row column rights in (m ≡ got c next) × (place ≡ place_in n ids c)
-      go (got c j) er =
-          let x : row ≡ c.row = cc in
-          let y : column ≡ c.column = cc in
-          let v : rights ≡ c.rights = cc in
-          let z : next ≡ j = cc in
-          (rw (x, y, v, z), rw (x, y, v) (cc))
-      go (fault f) er = constructors_differ (cc)
-
-  pub cell_stopped : (k q v w : ℕ) → r ≡ cell_at.Refused k q → v ≡ (of_cell r).number → w ≡ cell_place r → m ≡ fault (refusal v w)
-  cell_stopped k q v w e ev ew = go m er
-    where
-      go : (m : Read ℕ Refusal CellRecord) → r ≡ as_cell_at n ids kind m → m ≡ fault (refusal v w)
-      go (got c j) er = constructors_differ (cc)
-      go (fault f) er =
-          let x : v ≡ f.number = ev ∙ ap (λ (a : CellAt). (of_cell a).number) er in
-          let y : w ≡ f.at = ew ∙ ap cell_place er in
-          rw (x, y)
+          rw (em, ef, ← v)
 
 -- ---- a cell that was read: both its things are known
 abbrev BothIn : List ThingRecord → CellRecord → Type 0

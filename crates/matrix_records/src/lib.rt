@@ -5,5 +5,5 @@ mod answers;
 mod bodies;
 mod read;
 
-pub use answers::{CellAt, HeadAt, ThingAt};
+pub use answers::{FoundCell, FoundHead, FoundThing};
 pub use read::{any_record_at, read_cell, read_head, read_thing};

@@ -24,7 +24,7 @@ use Rattle.records.proofs.Trip.{Bytes, bind_got, got_same}
 use Rattle.records.proofs.Wrote.{pair_eq, wrote, wrote_first}
 use Rattle.matrix_bytes.specs.Answers.{read_matrix}
 use Rattle.matrix_bytes.specs.Read.{matrix}
-use Rattle.matrix_bytes.specs.declared.answers.MatrixAnswer.{MatrixAnswer}
+use Rattle.matrix_bytes.specs.MatrixAnswer.{MatrixAnswer}
 use Rattle.matrix_bytes.proofs.RoundTrips.{sized}
 use Rattle.moving.specs.Answers.{by_writing, as_moved, forward_into, back_into}
 use Rattle.moving.specs.FunctionMoves.{FunctionMoves}

@@ -21,7 +21,7 @@ use Rattle.records.specs.Outcome.Reading as reading
 use Rattle.records.proofs.Trip.{Bytes}
 use Rattle.matrix_bytes.specs.Answers.{as_matrix, read_matrix_by_head}
 use Rattle.matrix_bytes.specs.Read.{matrix}
-use Rattle.matrix_bytes.specs.declared.answers.MatrixAnswer.{MatrixAnswer}
+use Rattle.matrix_bytes.specs.MatrixAnswer.{MatrixAnswer}
 use Rattle.matrix_bytes.proofs.RoundTrips.{head_passes}
 use Rattle.moving.specs.Old.{highest_listed, by_listed, old_content, old_matrix}
 use Rattle.moving.specs.Moves.{new_image, old_image, forward, back}

@@ -26,7 +26,7 @@ use Rattle.records.proofs.Trip.{Bytes}
 use Rattle.matrix_records.proofs.Trips.{head_sized}
 use Rattle.matrix_bytes.specs.Read.{rest}
 use Rattle.matrix_bytes.specs.Answers.{as_matrix, read_rest}
-use Rattle.matrix_bytes.specs.declared.answers.MatrixAnswer.{MatrixAnswer}
+use Rattle.matrix_bytes.specs.MatrixAnswer.{MatrixAnswer}
 use Rattle.matrix_bytes.proofs.ReadMatrix.{rest_opened}
 use Rattle.matrix_bytes.proofs.Trips.{stand_le}
 use Rattle.laws.proofs.Differ.{constructors_differ}

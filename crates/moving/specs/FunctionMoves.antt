@@ -9,7 +9,7 @@ use Rattle.records.specs.Reading.{got}
 use Rattle.records.specs.Writing.{placed}
 use Rattle.records.specs.Outcome.Reading as reading
 use Rattle.matrix_bytes.specs.Answers.{read_matrix}
-use Rattle.matrix_bytes.specs.declared.answers.MatrixAnswer.{MatrixAnswer}
+use Rattle.matrix_bytes.specs.MatrixAnswer.{MatrixAnswer}
 use Rattle.moving.specs.Old.{old_matrix}
 use Rattle.moving.specs.Answers.{forward_into, back_into}
 use Rattle.moving.specs.declared.answers.Moved.{Moved}

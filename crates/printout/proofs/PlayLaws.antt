@@ -28,7 +28,7 @@ use Rattle.lines.proofs.LineLaws.{few_in_line}
 use Rattle.scheme_bytes.specs.Answers.{read_scheme}
 use Rattle.scheme_bytes.specs.declared.answers.SchemeAnswer.{SchemeAnswer}
 use Rattle.matrix_bytes.specs.Answers.{read_matrix}
-use Rattle.matrix_bytes.specs.declared.answers.MatrixAnswer.{MatrixAnswer}
+use Rattle.matrix_bytes.specs.MatrixAnswer.{MatrixAnswer}
 use Rattle.engine.specs.List.{run_answer, Result, run_on}
 use Rattle.request_list.specs.List.{read_list}
 use Rattle.engine.specs.declared.answers.Ran.{Ran}

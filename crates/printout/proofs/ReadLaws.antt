@@ -16,7 +16,7 @@ use Rattle.records.specs.Outcome.Reading.{Reading}
 use Rattle.records.specs.Outcome.Reading as reading
 use Rattle.matrix_bytes.specs.Read.{matrix}
 use Rattle.matrix_bytes.specs.Answers.{as_matrix, read_matrix}
-use Rattle.matrix_bytes.specs.declared.answers.MatrixAnswer.{MatrixAnswer}
+use Rattle.matrix_bytes.specs.MatrixAnswer.{MatrixAnswer}
 use Rattle.matrix_bytes.proofs.RoundTrips.{round_trips}
 
 abbrev how : MatrixAnswer × List ℕ → Reading

@@ -11,7 +11,7 @@ use Rattle.records.specs.Outcome.Reading.{Reading}
 use Rattle.records.specs.Outcome.Reading.{Done, Refused}
 use Rattle.scheme_bytes.specs.Answers.{read_scheme}
 use Rattle.matrix_bytes.specs.Answers.{read_matrix}
-use Rattle.matrix_bytes.specs.declared.answers.MatrixAnswer.{MatrixAnswer}
+use Rattle.matrix_bytes.specs.MatrixAnswer.{MatrixAnswer}
 use Rattle.request_list.specs.List.{read_list, Listed}
 use Rattle.totals.specs.Totals.{totals_of}
 use Rattle.totals.specs.declared.answers.Totals.{Totals}

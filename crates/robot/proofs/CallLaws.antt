@@ -23,7 +23,7 @@ use Rattle.scheme_bytes.specs.declared.answers.SchemeAnswer.{SchemeAnswer}
 use Rattle.scheme_bytes.proofs.FunctionTrips.{function_trips}
 use Rattle.matrix_bytes.specs.Answers.{read_matrix, read_matrix_by_head}
 use Rattle.matrix_bytes.specs.Write.{write_matrix}
-use Rattle.matrix_bytes.specs.declared.answers.MatrixAnswer.{MatrixAnswer}
+use Rattle.matrix_bytes.specs.MatrixAnswer.{MatrixAnswer}
 use Rattle.hold.specs.Marking.{as_marked}
 use Rattle.hold.specs.declared.Marked.{Marked}
 use Rattle.hold.specs.declared.Marking.TheVariants as marking

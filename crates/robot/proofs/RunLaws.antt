@@ -27,7 +27,7 @@ use Rattle.records.specs.Outcome.Writing as writing
 use Rattle.records.proofs.Wrote.{pair_eq, wrote}
 use Rattle.matrix_bytes.specs.Answers.{read_matrix, read_matrix_by_head}
 use Rattle.matrix_bytes.specs.Write.{matrix_bytes, write_matrix, write_matrix_by_head}
-use Rattle.matrix_bytes.specs.declared.answers.MatrixAnswer.{MatrixAnswer}
+use Rattle.matrix_bytes.specs.MatrixAnswer.{MatrixAnswer}
 use Rattle.matrix_bytes.proofs.RoundTrips.{head_passes}
 use Rattle.matrix_bytes.proofs.FunctionTrips.{function_trips}
 use Rattle.engine.specs.List.{replies_to, run_answer, Result, refused_run, run_on, run_quietly}

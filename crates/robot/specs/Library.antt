@@ -16,7 +16,7 @@ use Rattle.records.specs.Outcome.Writing as writing
 use Rattle.scheme_bytes.specs.Answers.{read_scheme}
 use Rattle.matrix_bytes.specs.Answers.{read_matrix}
 use Rattle.matrix_bytes.specs.Write.{matrix_bytes, write_matrix}
-use Rattle.matrix_bytes.specs.declared.answers.MatrixAnswer.{MatrixAnswer}
+use Rattle.matrix_bytes.specs.MatrixAnswer.{MatrixAnswer}
 use Rattle.request_bytes.specs.Write.{write_request}
 use Rattle.request_list.specs.List.{Listed, read_list}
 use Rattle.engine.specs.List.{replies_to}

@@ -1,26 +1,16 @@
--- The answers of the functions that read a part of a matrix: its things in their seats, and its cells in their places.
+-- What the functions give that read the cells of a matrix: each in its place.
 -- Assumes nothing.
-use Rattle.std.specs.Prelude.{ℕ, List, [], ◌∷◌, ◌≡◌, length, set, replicate}
-use Rattle.model.specs.Seats.{no_things}
+use Rattle.std.specs.Prelude.{ℕ, List, [], ◌∷◌, Result, Ok, Err, ◌≡◌, length, set}
 use Rattle.model.specs.declared.Head.{Head}
 use Rattle.model.specs.declared.Things.{Things}
 use Rattle.records.specs.Reading.{Read, got, fault}
 use Rattle.records.specs.Front.{Refusal, in_record}
-use Rattle.records.specs.Outcome.Reading.{Reading}
-use Rattle.records.specs.Outcome.Reading.{Done, Refused}
-use Rattle.matrix_records.specs.Content.{ThingRecord, CellRecord, listed}
+use Rattle.records.specs.Results.{refused}
+use Rattle.records.specs.declared.Refused as result
+use Rattle.matrix_records.specs.Content.{CellRecord, listed}
 use Rattle.matrix_records.specs.Read.{cell, start}
 use Rattle.matrix_records.specs.Answers.{place_in}
-use Rattle.matrix_bytes.specs.Content.{things_from}
 use Rattle.matrix_bytes.specs.Read.{to_end}
-use Rattle.matrix_bytes.specs.declared.answers.MatrixAnswer.{MatrixAnswer}
-
-abbrev pub refused_at : Things → ℕ → ℕ → MatrixAnswer
-refused_at things k at = record { answer = Refused k at; things = things }
-
-abbrev pub as_things : ℕ → Read ℕ Refusal (List ThingRecord) → MatrixAnswer
-as_things highest (got ts next) = record { answer = Done next; things = things_from highest ts }
-as_things highest (fault f) = refused_at no_things f.number f.at
 
 -- the cells from a position to the end of the input, of the first n things
 abbrev pub cells_from : List ℕ → Head → Things → ℕ → ℕ → Read ℕ Refusal (List CellRecord)
@@ -31,11 +21,7 @@ unfoldable pub stored_in : ℕ → List ℕ → List ℕ → List CellRecord →
 stored_in n ids cells [] = cells
 stored_in n ids cells (c ∷ cs) = stored_in n ids (set cells (place_in n ids c) c.rights) cs
 
--- the answer, and what it leaves of the lent cells; where it is a refusal, nobody looks at them
-unfoldable pub CellsRead : ℕ → List ℕ → List ℕ → Reading → List ℕ → Read ℕ Refusal (List CellRecord) → Type 0
-CellsRead n ids cells answer new (got cs next) = (answer ≡ Done next) × (new ≡ stored_in n ids cells cs)
-CellsRead n ids cells answer new (fault f) = answer ≡ Refused f.number f.at
-
-unfoldable pub finished : ℕ → Things → Things → List ℕ → Read ℕ Refusal (List CellRecord) → MatrixAnswer × List ℕ
-finished n th things cells (got cs next) = (record { answer = Done next; things = th }, stored_in n th.ids (replicate 2304 0) cs)
-finished n th things cells (fault f) = (refused_at things f.number f.at, cells)
+-- the result, and what it leaves of the lent cells; where it is a refusal, nobody looks at them
+unfoldable pub CellsRead : ℕ → List ℕ → List ℕ → Result ℕ result.Refused → List ℕ → Read ℕ Refusal (List CellRecord) → Type 0
+CellsRead n ids cells read new (got cs next) = (read ≡ Ok next) × (new ≡ stored_in n ids cells cs)
+CellsRead n ids cells read new (fault f) = read ≡ Err (refused f.number f.at)

@@ -1,29 +1,28 @@
--- The answers of the functions that read one body, whose record's front is known.
+-- What the functions give that find one record, and that read a part of a body.
 -- Assumes nothing.
-use Rattle.std.specs.Prelude.{ℕ, ◌^◌, not, List, eqb, ltb, take}
+use Rattle.std.specs.Prelude.{ℕ, ◌^◌, cond, not, List, Result, Ok, Err, eqb, ltb, take}
+use Rattle.faults.specs.declared.Fault.{Fault}
 use Rattle.laws.specs.Check.{is_some}
+use Rattle.model.specs.Accepted.{accepted_head}
 use Rattle.model.specs.Seats.{find}
 use Rattle.model.specs.declared.Head.{Head}
-use Rattle.records.specs.Reading.{Read, got, fault, Body, ◌>>=◌, ◌>>◌, done, check, number}
-use Rattle.records.specs.Front.{on_body}
-use Rattle.matrix_records.specs.Content.{Stated, ThingRecord, CellRecord}
+use Rattle.records.specs.Reading.{Body, ◌>>=◌, ◌>>◌, done, check, number}
+use Rattle.records.specs.Front.{record_at}
+use Rattle.records.specs.Outcome.RecordAnswer.{RecordAnswer}
+use Rattle.records.specs.Outcome.RecordAnswer as record_answer
+use Rattle.records.specs.declared.Refused.{Refused}
+use Rattle.matrix_records.specs.Content.{ThingRecord}
 use Rattle.matrix_records.specs.Read.{thing_with}
-use Rattle.matrix_records.specs.Answers.{as_head_at, as_thing_at, as_cell_at}
-use Rattle.matrix_records.specs.declared.answers.Front.{Front}
-use Rattle.matrix_records.specs.declared.answers.HeadAt.{HeadAt}
-use Rattle.matrix_records.specs.declared.answers.ThingAt.{ThingAt}
-use Rattle.matrix_records.specs.declared.answers.CellAt.{CellAt}
-use Rattle.matrix_records.specs.declared.answers.SeatAt.{SeatAt}
-use Rattle.matrix_records.specs.declared.answers.SeatAt.TheVariants as seat_at
 
-abbrev pub head_of : Front → Read (List ℕ) ℕ Stated → HeadAt
-head_of f m = as_head_at f.kind (on_body f.at f.next m)
+-- the record that is read against a scheme's head
+abbrev pub record_against : List ℕ → ℕ → ℕ → Head → RecordAnswer
+record_against s at kinds h = cond (accepted_head h) (record_at s at kinds) (record_answer.Refused 27 0)
 
-abbrev pub thing_of : Front → Read (List ℕ) ℕ ThingRecord → ThingAt
-thing_of f m = as_thing_at f.kind (on_body f.at f.next m)
-
-abbrev pub cell_of : ℕ → List ℕ → Front → Read (List ℕ) ℕ CellRecord → CellAt
-cell_of n ids f m = as_cell_at n ids f.kind (on_body f.at f.next m)
+-- what was read of a body, as the item of the record that it stands in
+module _ {A : Type 0} (at next : ℕ) where
+  abbrev pub item_at : Result A Fault → Result (A × ℕ) Refused
+  item_at (Ok a) = Ok (a, next)
+  item_at (Err f) = Err (record { fault = f; at = at })
 
 -- the rights of a cell, its last field
 unfoldable pub rights_of : Head → Body ℕ
@@ -40,10 +39,5 @@ thing_id ts = do
   check (is_some (thing_with ts x)) 5
   done x
 
-abbrev pub as_seat : ℕ → List ℕ → Read (List ℕ) ℕ ℕ → SeatAt
-as_seat n ids (got x rest) = seat_at.Found x (find (take n ids) x)
-as_seat n ids (fault k) = seat_at.Fault k
-
-abbrev pub seat_number : SeatAt → ℕ
-seat_number (seat_at.Found id seat) = 0
-seat_number (seat_at.Fault k) = k
+abbrev pub seat_of : ℕ → List ℕ → ℕ → ℕ × ℕ
+seat_of n ids x = (x, find (take n ids) x)

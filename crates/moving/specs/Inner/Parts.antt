@@ -5,7 +5,7 @@ use Rattle.model.specs.Seats.{Matrix, no_things}
 use Rattle.records.specs.Reading.{Read, got, fault}
 use Rattle.records.specs.Front.{Refusal}
 use Rattle.records.specs.Outcome.Reading.{Done, Refused}
-use Rattle.matrix_bytes.specs.declared.answers.MatrixAnswer.{MatrixAnswer}
+use Rattle.matrix_bytes.specs.MatrixAnswer.{MatrixAnswer}
 
 abbrev pub refused_at : ℕ → ℕ → MatrixAnswer
 refused_at k at = record { answer = Refused k at; things = no_things }

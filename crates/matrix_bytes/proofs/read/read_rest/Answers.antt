@@ -1,32 +1,27 @@
 -- `matrix_bytes::read::read_rest` meets its contract: 27, then what stands behind a head.
 -- Assumes nothing.
 use native.Mathlib.Omega.{arith}
-use mathlib.Core.Path.{sym, ◌∙◌}
-use borrow.Author.Tests.{not-true, not-false}
+use mathlib.Core.Path.{sym, ap, ◌∙◌}
+use Rattle.faults.specs.Numbers.{fault_of}
 use Rattle.laws.proofs.Bools.{from_true}
-use Rattle.matrix_bytes.proofs.ReadMatrix.{rest_refused, rest_opened}
+use Rattle.matrix_bytes.specs.Answers.{matrix_result}
+use Rattle.matrix_bytes.proofs.ReadMatrix.{refuted, rest_refused, rest_opened}
 use Rattle.matrix_bytes.proofs.read.read_rest.Goals as goal
+use Rattle.matrix_bytes.proofs.read.read_rest.Goals.{then-cells-ne-CELLS-via-then-cells-ne-CELLS, then-cells-ne-CELLS-via-else-cells-ne-CELLS+then-s-at, then-cells-ne-CELLS-via-else-cells-ne-CELLS+else-s-at+then-count-gt-LIMIT, then-cells-ne-CELLS-via-else-cells-ne-CELLS+else-s-at+else-count-gt-LIMIT+then-not-head_accepted}
 
 pub returns-then-cells-ne-CELLS : goal.returns-then-cells-ne-CELLS
-returns-then-cells-ne-CELLS c = rest_refused _ _ _ _ _ _ _ (λ (ok, few, near, room). c.if-cells-ne-CELLS.true room) _ c.refused.ensures
-
-pub returns-then-s-at : goal.returns-then-s-at
-returns-then-s-at c = rest_refused _ _ _ _ _ _ _ (λ (ok, few, near, room). omega (arith, c.if-s-at.true)) _ c.refused-then-s-at.ensures
-
-pub returns-then-count-gt-LIMIT : goal.returns-then-count-gt-LIMIT
-returns-then-count-gt-LIMIT c = rest_refused _ _ _ _ _ _ _ (λ (ok, few, near, room). omega (arith, c.if-count-gt-LIMIT.true)) _ c.refused-then-count-gt-LIMIT.ensures
-
-pub returns-then-not-head_accepted : goal.returns-then-not-head_accepted
-returns-then-not-head_accepted c =
-    let e = sym c.head_accepted.ensures ∙ not-true _ c.if-not-head_accepted.true-raw in
-    rest_refused _ _ _ _ _ _ _ (λ (ok, few, near, room). rw e at ok) _ c.refused-then-not-head_accepted.ensures
-
-pub rest_of-requires : goal.rest_of-requires
-rest_of-requires c =
-    (from_true (sym c.head_accepted.ensures ∙ not-false _ c.if-not-head_accepted.false-raw), c.if-count-gt-LIMIT.false, c.if-s-at.false, c.if-cells-ne-CELLS.false)
+unfolding fault_of
+returns-then-cells-ne-CELLS c =
+    let a = c.args in
+    ap matrix_result (rest_refused a.s.now a.at a.h a.highest a.count a.things.now a.cells.now λ (ok, few, near, room).
+    elim c.then-cells-ne-CELLS.branch [
+      | then-cells-ne-CELLS-via-then-cells-ne-CELLS w ↦ w.if-cells-ne-CELLS.true room
+      | then-cells-ne-CELLS-via-else-cells-ne-CELLS+then-s-at w ↦ omega (arith, w.if-s-at.true)
+      | then-cells-ne-CELLS-via-else-cells-ne-CELLS+else-s-at+then-count-gt-LIMIT w ↦ omega (arith, w.if-count-gt-LIMIT.true)
+      | then-cells-ne-CELLS-via-else-cells-ne-CELLS+else-s-at+else-count-gt-LIMIT+then-not-head_accepted w ↦ refuted w.if-not-head_accepted.ensures ok
+    ])
 
 pub returns : goal.returns
 returns c =
     c.rest_of.ensures
-    ∙ sym (rest_opened _ _ _ _ _ _ _
-    (from_true (sym c.head_accepted.ensures ∙ not-false _ c.if-not-head_accepted.false-raw), c.if-count-gt-LIMIT.false, c.if-s-at.false, c.if-cells-ne-CELLS.false))
+    ∙ ap matrix_result (sym (rest_opened _ _ _ _ _ _ _ (from_true (sym c.if-not-head_accepted.ensures), c.if-count-gt-LIMIT.false, c.if-s-at.false, c.if-cells-ne-CELLS.false)))

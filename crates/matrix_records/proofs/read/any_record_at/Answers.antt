@@ -1,49 +1,35 @@
 -- `matrix_records::read::any_record_at` meets its contract: both halves of the front are there, and the body behind it.
 -- Assumes nothing.
-use Prim.Native.Nat.{◌+◌, ◌≤◌}
+use Prim.Native.Nat.{◌+◌}
 use native.Mathlib.Omega.{arith}
-use mathlib.Core.Path.{◌≡◌, sym, ◌∙◌}
-use lib.ListN.{length}
-use borrow.Author.Rules.{rules}
-use Rattle.records.specs.Bytes.{number2}
+use mathlib.Core.Path.{sym, ap}
+use Rattle.faults.specs.Numbers.{fault_of}
+use Rattle.records.specs.Results.{record_result}
 use Rattle.matrix_records.proofs.AnyRecord.{two_read, two_short, any_short, any_past, any_whole}
 use Rattle.matrix_records.proofs.read.any_record_at.Goals as goal
-use Rattle.matrix_records.proofs.read.any_record_at.Goals.{In-Value, In-Value-second}
-
--- once the length is read, and once the kind is
-first_read : (c : In-Value) → let a = c.args in
-    (a.at + 2 ≤ length a.s.now) × (c.in-Value.n ≡ number2 a.s.now a.at)
-first_read c = two_read _ _ _ (sym c.field2_at-first.ensures ∙ c.in-Value.is)
-
-second-read : (c : In-Value-second) → let a = c.args in
-    (a.at + 2 + 2 ≤ length a.s.now) × (c.in-Value-second.kind ≡ number2 a.s.now (a.at + 2))
-second-read c = two_read _ _ _ (sym c.field2_at-second.ensures ∙ c.in-Value-second.is)
 
 pub returns-in_default : goal.returns-in_default
+unfolding fault_of
 returns-in_default c =
     let a = c.args in
-    any_short _ _ (omega (arith, two_short a.s.now a.at _ (sym c.field2_at-first.ensures ∙ c.in_default.is)))
+    sym (ap record_result (any_short a.s.now a.at (omega (arith, two_short a.s.now a.at c.in_default.ensures))))
 
-pub overflow_add-at : goal.overflow_add-at
-overflow_add-at c = let h = first_read c in search rules
-
-pub returns-in_default-second : goal.returns-in_default-second
-returns-in_default-second c =
+pub returns-in_default-field2_at : goal.returns-in_default-field2_at
+unfolding fault_of
+returns-in_default-field2_at c =
     let a = c.args in
-    any_short _ _ (omega (arith, two_short a.s.now (a.at + 2) _ (sym c.field2_at-second.ensures ∙ c.in_default-second.is)))
-
-pub overflow_add-start : goal.overflow_add-start
-overflow_add-start c = let h = second-read c in search rules
+    sym (ap record_result (any_short a.s.now a.at (omega (arith, two_short a.s.now (a.at + 2) c.in_default-field2_at.ensures))))
 
 pub overflow_sub-s : goal.overflow_sub-s
-overflow_sub-s c = let h = second-read c in search rules
+overflow_sub-s c = let h = two_read c.args.s.now (c.args.at + 2) c.in-Ok-field2_at.ensures in omega (arith, h.0)
 
 pub returns-then-s-start : goal.returns-then-s-start
+unfolding fault_of
 returns-then-s-start c =
-    let h = (second-read (goal.at.returns-then-s-start c).In-Value-second).0 in
-    any_past _ _ (omega arith) _ (first_read (goal.at.returns-then-s-start c).In-Value).1 (omega arith)
+    let h = two_read c.args.s.now (c.args.at + 2) c.in-Ok-field2_at.ensures in
+    sym (ap record_result (any_past _ _ (omega (arith, h.0)) _ (two_read c.args.s.now c.args.at c.in-Ok.ensures).1 (omega arith)))
 
 pub returns : goal.returns
 returns c =
-    let h = second-read (goal.at.returns c).In-Value-second in
-    any_whole _ _ (omega arith) _ (first_read (goal.at.returns c).In-Value).1 _ h.1 (omega arith)
+    let h = two_read c.args.s.now (c.args.at + 2) c.in-Ok-field2_at.ensures in
+    sym (ap record_result (any_whole _ _ (omega (arith, h.0)) _ (two_read c.args.s.now c.args.at c.in-Ok.ensures).1 _ h.1 (omega arith)))

@@ -1,33 +1,21 @@
--- `matrix_records::read::read_thing` meets its contract: 27, then the front, and then the body of a record that lies in the input.
+-- `matrix_records::read::read_thing` meets its contract: the record, and then the body of a record that lies in the input.
 -- Assumes nothing.
-use mathlib.Core.Bool.{true}
-use mathlib.Core.Path.{◌≡◌, sym, ◌∙◌}
+use mathlib.Core.Path.{◌∙◌}
 use borrow.Author.Rules.{rules}
-use borrow.Author.Tests.{not-true, not-false}
-use Rattle.model.specs.Accepted.{accepted_head}
-use Rattle.records.proofs.FrontLaws.{record_found}
-use Rattle.matrix_records.specs.Answers.{as_thing_at, read_thing}
-use Rattle.matrix_records.proofs.RecordLaws.{not_given, record_refused, record_read}
+use Rattle.std.proofs.lemmas.Result.{err_from_is_err_and}
+use Rattle.matrix_records.specs.Answers.{found_thing, read_thing}
+use Rattle.matrix_records.proofs.RecordLaws.{record_refused, record_read, against_found}
 use Rattle.matrix_records.proofs.read.read_thing.Goals as goal
-use Rattle.matrix_records.proofs.read.read_thing.Goals.{After-record_at-found}
 
-pub returns-then-not-head_accepted : goal.returns-then-not-head_accepted
+pub returns-in_err-kind : goal.returns-in_err-kind
 unfolding read_thing
-returns-then-not-head_accepted c = not_given as_thing_at _ _ _ _ _ (sym c.head_accepted.ensures ∙ not-true _ c.if-not-head_accepted.true-raw)
+returns-in_err-kind c =
+    let p = err_from_is_err_and c.from_residual.result c.from_residual.ensures.1 in
+    rw (p.1, p.2) (record_refused found_thing _ _ _ _ _ c.in_err-kind.ensures)
 
--- the head has passed, once a record is looked for
-passing : (c : After-record_at-found) → accepted_head c.args.h ≡ true
-passing c = sym c.head_accepted.ensures ∙ not-false _ c.if-not-head_accepted.false-raw
-
-pub returns-in_default : goal.returns-in_default
-unfolding read_thing
-returns-in_default c =
-    record_refused as_thing_at _ _ _ _ _ (passing (goal.at.returns-in_default c).After-record_at-found) _ c.record_at-found.ensures _ _ _ _ c.in_default.is c.number.ensures c.at.ensures
-
-pub overflow_add-front : goal.overflow_add-front
-overflow_add-front c = let f = record_found _ _ _ _ _ _ (sym c.record_at-found.ensures ∙ c.in-Record.is) in search rules
+pub overflow_add-start : goal.overflow_add-start
+overflow_add-start c = let f = against_found _ _ _ _ c.in_ok-kind.ensures in search rules
 
 pub returns : goal.returns
 unfolding read_thing
-returns c =
-    c.thing_of.ensures ∙ record_read as_thing_at _ _ _ _ _ (passing (goal.at.returns c).After-record_at-found) _ c.record_at-found.ensures _ _ _ c.in-Record.is _ c.body.ensures
+returns c = c.item.ensures ∙ record_read found_thing _ _ _ _ _ c.in_ok-kind.ensures _ _ c.body.ensures c.thing_of-found.ensures
