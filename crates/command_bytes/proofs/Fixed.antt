@@ -22,7 +22,7 @@ use Rattle.model.specs.declared.Head.{Head}
 use Rattle.records.specs.Reading.{got, Body, done, check, steps, field, ◌>>=◌, ◌>>◌}
 use Rattle.records.proofs.FieldLaws.{field_value}
 use Rattle.records.proofs.Trip.{never, got_left, bind_got}
-use Rattle.command_bytes.proofs.FieldReads.{three}
+use Rattle.command_bytes.specs.Inner.Parts.{three}
 use Rattle.command_bytes.specs.Read.{named, thing, test_of, test, code_of, operation_of, by_code, operation, type_in}
 
 pub record Fixed {A : Type 0} (w : ℕ) (p : Body A) : Type 0 where
@@ -66,15 +66,15 @@ pub fixed_type : (h : Head) → Fixed 1 (type_in h)
 unfolding type_in
 fixed_type h = fixed_then (fixed_field 0 h.types 5) λ t. fixed_done (type t)
 
-fixed_three : (n x k m y : ℕ) (fits : Parameter → Bool) → Fixed 3 (three n x k m y fits)
-fixed_three n x k m y fits =
+fixed_three : (n k m x : ℕ) (fits : Parameter → Bool) → Fixed 3 (three n k m x fits)
+fixed_three n k m x fits =
     fixed_then (fixed_field 0 n x) λ r. fixed_then (fixed_field 0 k 5) λ row.
-    fixed_check (fits (parameter row)) 6 (fixed_then (fixed_field 0 m y) λ column. fixed_done _)
+    fixed_check (fits (parameter row)) 6 (fixed_then (fixed_field 0 m x) λ column. fixed_done _)
 
 module _ (h : Head) (types : List ThingType) where
   fixed_named : Fixed 3 (named h types)
   unfolding named
-  fixed_named = fixed_three h.rights 5 (length types) (length types) 5 (λ row. is_subject h (type_at types row))
+  fixed_named = fixed_three h.rights (length types) (length types) 5 (λ row. is_subject h (type_at types row))
 
   pub fixed_test : Fixed 4 (test h types)
   unfolding test
@@ -85,8 +85,8 @@ module _ (h : Head) (types : List ThingType) where
     unfolding thing
     fixed_by_code Enter = fixed_named
     fixed_by_code Delete = fixed_named
-    fixed_by_code Create = fixed_three 1 6 (length types) 1 6 (creatable tests before)
-    fixed_by_code Destroy = fixed_three 1 6 (length types) 1 6 (destroyable before)
+    fixed_by_code Create = fixed_three 1 (length types) 1 6 (creatable tests before)
+    fixed_by_code Destroy = fixed_three 1 (length types) 1 6 (destroyable before)
 
     pub fixed_operation : Fixed 4 (operation h types tests before)
     unfolding operation

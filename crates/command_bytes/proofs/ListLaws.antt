@@ -1,74 +1,58 @@
--- What the proofs of the loops in `lists` share: from the answer for one element back to its reader, and what the operations before the next are.
+-- The loops of `lists`: after j turns j elements are read, and stand at the array's start. Once for all elements and for every array.
 -- Assumes nothing.
-use Prim.Native.Nat.{ℕ, ◌+◌, ◌-◌, ◌<◌}
+use Prim.Native.Nat.{ℕ, ◌+◌, ◌-◌, ◌*◌, ◌<◌, ◌≤◌}
 use native.Mathlib.Omega.{arith}
+use native.Mathlib.Nat.{sub-zero}
 use native.Mathlib.Numerals.{add-one}
-use mathlib.Core.List.{List, ◌∷◌, ◌++◌, map, map-id, reverse, reverse-append}
-use mathlib.Core.Path.{◌≡◌, ◌∙◌}
+use mathlib.Core.List.{List, [], ◌∷◌, ◌++◌, map, map-id, reverse, reverse-append}
+use mathlib.Core.Path.{◌≡◌, refl, ap}
 use lib.ListN.{length, take, drop, set, replicate, length-append, length-replicate}
 use lib.Seq.{take-suc-set}
-use Rattle.rights.specs.Numberings.{type}
-use Rattle.rights.specs.declared.ThingType.{ThingType}
-use Rattle.laws.proofs.Differ.{constructors_differ}
-use Rattle.model.specs.declared.Test.{Test}
-use Rattle.model.specs.declared.Operation.{Operation}
-use Rattle.model.specs.declared.Head.{Head}
-use Rattle.records.specs.Reading.{Read, got, fault, Reader, field, as_field}
-use Rattle.records.specs.declared.Field.TheVariants as one
-use Rattle.records.proofs.FieldLaws.{field_value, field_fault}
-use Rattle.records.proofs.Loop.{Looped}
-use Rattle.command_bytes.specs.Read.{test, operation, type_in}
-use Rattle.command_bytes.specs.Inner.Answers.{as_test, as_operation}
-use Rattle.command_bytes.specs.declared.answers.TestAnswer.TheVariants as test_answer
-use Rattle.command_bytes.specs.declared.answers.OperationAnswer.TheVariants as operation_answer
-use Rattle.command_bytes.proofs.Fixed.{fixed_at, fixed_test, fixed_operation}
+use Rattle.std.specs.Prelude.{Ok, Err}
+use Rattle.faults.specs.declared.Fault.{Fault}
+use Rattle.records.specs.Reading.{Body, steps}
+use Rattle.records.specs.Results.{value_of}
+use Rattle.records.proofs.FieldLaws.{value_back, fault_back}
+use Rattle.records.proofs.Loop.{Looped, looped_none, looped_on, looped_stop, looped_all, fill_next}
+use Rattle.command_bytes.specs.Inner.Parts.{in_array}
+use Rattle.command_bytes.proofs.Fixed.{Fixed, fixed_at}
 
--- ---- the fault of one element
-pub type_fault : (h : Head) (r : List ℕ) (k : ℕ) → as_field (field 0 h.types 5 r) ≡ one.Fault k → type_in h r ≡ fault k
-unfolding type_in
-type_fault h r k e = rw (field_fault (field 0 h.types 5 r) k e)
+module _ {A S : Type 0} (p : S → Body A) (next : S → A → S) (w : ℕ) (fixed : (s : S) → Fixed w (p s)) (none : A) (places n : ℕ) (s₀ : S) (b : List ℕ) (i : ℕ) where
+  pub record Filled (j : ℕ) (s : S) (array : List A) : Type 0 where
+    pub turns : Looped p next n s₀ (drop i b) j s (drop (i + w * j) b)
+    pub held : array ≡ map (λ (a : A). a) turns.items ++ replicate (places - j) none
 
-pub test_fault : (m : Read (List ℕ) ℕ Test) {k : ℕ} → as_test m ≡ test_answer.Fault k → m ≡ fault k
-test_fault (got u s) e = constructors_differ (cc)
-test_fault (fault j) {k} e = let f : j ≡ k = cc in rw f
+module _ {A S : Type 0} {p : S → Body A} {next : S → A → S} {w : ℕ} {fixed : (s : S) → Fixed w (p s)} {none : A} {places n : ℕ} {s₀ : S} {b : List ℕ} {i : ℕ} where
+  pub filled_none : Filled p next w fixed none places n s₀ b i 0 s₀ (replicate places none)
+  filled_none = let e : i + w * 0 ≡ i = omega arith in record { turns = rw e looped_none; held = rw sub-zero refl }
 
-pub operation_fault : (m : Read (List ℕ) ℕ Operation) {k : ℕ} → as_operation m ≡ operation_answer.Fault k → m ≡ fault k
-operation_fault (got u s) e = constructors_differ (cc)
-operation_fault (fault j) {k} e = let f : j ≡ k = cc in rw f
+  module _ {j : ℕ} {s : S} {array : List A} (v : Filled p next w fixed none places n s₀ b i j s array) where
+    -- there is a place for the next
+    pub filled_room : j < places → j < length array
+    filled_room h = rw v.held (rw (length-append, map-id, v.turns.count, length-replicate) (omega arith))
 
--- ---- its value, and what is left
-as_test_lem : (m : Read (List ℕ) ℕ Test) {t : Test} → as_test m ≡ test_answer.Good t → (s : List ℕ) × (m ≡ got t s)
-as_test_lem (got u s) {t} e = (s, let f : u ≡ t = cc in rw f)
-as_test_lem (fault k) e = constructors_differ (cc)
+    module _ (h : j < n) {m : ℕ} (em : m ≡ i + w * j) where
+      pub filled_on : n ≤ places → {a : A} → value_of (p s (drop m b)) ≡ Ok a → Filled p next w fixed none places n s₀ b i (j + 1) (next s a) (set array j a)
+      filled_on few {a} e =
+          let g = value_back (p s (drop (i + w * j) b)) (rw em at e) in
+          let f = fixed_at (fixed s) b (i + w * j) (i + w * (j + 1)) (omega arith) g.1 in
+          record { turns = looped_on v.turns h f; held = fill_next (λ x. x) none places v.turns.items a j v.held v.turns.count (omega arith) }
 
-as_operation_lem : (m : Read (List ℕ) ℕ Operation) {o : Operation} → as_operation m ≡ operation_answer.Good o → (s : List ℕ) × (m ≡ got o s)
-as_operation_lem (got u s) {o} e = (s, let f : u ≡ o = cc in rw f)
-as_operation_lem (fault k) e = constructors_differ (cc)
+      pub filled_stop : {B : Type 0} (from : List A → B) {f : Fault} → value_of (p s (drop m b)) ≡ Err f →
+          Err f ≡ value_of (in_array from (steps p next n s₀) (drop i b))
+      filled_stop from {f = f} e =
+          let g = fault_back (p s (drop (i + w * j) b)) (rw em at e) in
+          rw (looped_stop v.turns h g.1) (ap Err g.2)
 
-module _ (b : List ℕ) (i j : ℕ) (h : Head) where
-  pub type_value : j ≡ i + 1 → {v : ℕ} → as_field (field 0 h.types 5 (drop i b)) ≡ one.Value v → type_in h (drop i b) ≡ got (type v) (drop j b)
-  unfolding type_in
-  type_value ej {v} e = rw (field_value b i j v 0 h.types 5 ej e)
+    pub filled_all : n ≤ j → {B : Type 0} (from : List A → B) → value_of (in_array from (steps p next n s₀) (drop i b)) ≡ Ok (from v.turns.items)
+    filled_all h from = rw (looped_all v.turns h)
 
-  module _ (types : List ThingType) (ej : j ≡ i + 4) where
-    pub test_good : {t : Test} → as_test (test h types (drop i b)) ≡ test_answer.Good t → test h types (drop i b) ≡ got t (drop j b)
-    test_good e = fixed_at (fixed_test h types) b i j ej (as_test_lem (test h types (drop i b)) e).1
-
-    pub operation_good : (tests : List Test) (before : List Operation) {o : Operation} →
-        as_operation (operation h types tests before (drop i b)) ≡ operation_answer.Good o → operation h types tests before (drop i b) ≡ got o (drop j b)
-    operation_good tests before e =
-        fixed_at (fixed_operation h types tests before) b i j ej (as_operation_lem (operation h types tests before (drop i b)) e).1
-
--- ---- the operations before the next, once one more is stored
-pub before_next : (l : List Operation) (j : ℕ) (o : Operation) → j < length l → reverse (take (j + 1) (set l j o)) ≡ o ∷ reverse (take j l)
-before_next l j o h = rw (add-one, take-suc-set l j o h, reverse-append)
-
--- an array that is filled up to j has a place there
-pub room : {A : Type 0} (z : A) (m : ℕ) (items : List A) {array : List A} (j : ℕ) → array ≡ map (λ (x : A). x) items ++ replicate (m - j) z →
-    length items ≡ j → j < m → j < length array
-room z m items j e l h = rw (e, length-append, map-id, l, length-replicate) (omega arith)
-
--- the same turn of a loop, its state said otherwise; the items stay what they compute to
-module _ {I F A S : Type 0} {p : S → Reader I F A} {next : S → A → S} {n : ℕ} {s₀ : S} {i₀ : I} {j : ℕ} {s s' : S} {i : I} where
-  abbrev pub looped_as : s ≡ s' → Looped p next n s₀ i₀ j s i → Looped p next n s₀ i₀ j s' i
-  looped_as e v = record { items = v.items; count = v.count; read = v.read ∙ rw e }
+-- ---- each behind those before it, of which the last is the first in the list that the reader carries
+module _ {A : Type 0} {p : List A → Body A} {w : ℕ} {fixed : (s : List A) → Fixed w (p s)} {none : A} {places n : ℕ} {b : List ℕ} {i j : ℕ} {array : List A} where
+  pub filled_behind : Filled p (λ before a. a ∷ before) w fixed none places n [] b i j (reverse (take j array)) array → j < n → {m : ℕ} → m ≡ i + w * j →
+      n ≤ places → {a : A} → value_of (p (reverse (take j array)) (drop m b)) ≡ Ok a →
+      Filled p (λ before a. a ∷ before) w fixed none places n [] b i (j + 1) (reverse (take (j + 1) (set array j a))) (set array j a)
+  filled_behind v h em few {a} e =
+      let l = filled_room v (omega arith) in
+      let d : reverse (take (j + 1) (set array j a)) ≡ a ∷ reverse (take j array) = rw (add-one, take-suc-set array j a l, reverse-append) in
+      rw d (filled_on v h em few e)

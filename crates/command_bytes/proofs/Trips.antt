@@ -25,7 +25,7 @@ use Rattle.records.proofs.Trip.{Trip, body, trip_as, trip_check, trip_then, trip
 use Rattle.records.proofs.TripFields.{trip_number, trip_field}
 use Rattle.command_bytes.specs.Read.{head, Named, named, thing, test_of, test, code_of, operation_of, by_code, operation, type_in}
 use Rattle.command_bytes.specs.Write.{head_bytes, type_bytes, test_bytes, code_number, operation_bytes}
-use Rattle.command_bytes.proofs.FieldReads.{three}
+use Rattle.command_bytes.specs.Inner.Parts.{three}
 
 -- ---- checks that pass, from what they check
 pub between_low : (low high x : ℕ) → T (between low high x) → low ≤ x
@@ -87,13 +87,13 @@ pub record InRange (n k m : ℕ) (fits : Parameter → Bool) (a : Named) : Type 
 abbrev pub named_bytes : Named → List ℕ
 named_bytes a = right_byte a.right ∷ parameter_byte a.row ∷ parameter_byte a.column ∷ []
 
-three_trip : (n x k m y : ℕ) (fits : Parameter → Bool) → n ≤ 256 → k ≤ 256 → m ≤ 256 → Trip body (three n x k m y fits) named_bytes (InRange n k m fits)
-three_trip n x k m y fits ln lk lm =
+three_trip : (n k m x : ℕ) (fits : Parameter → Bool) → n ≤ 256 → k ≤ 256 → m ≤ 256 → Trip body (three n k m x fits) named_bytes (InRange n k m fits)
+three_trip n k m x fits ln lk lm =
     trip_as
     (trip_then (trip_field 0 n x) (λ a. a.right.0) (λ r a l o. rw o.1.1.1) λ r lr.
     trip_then (trip_field 0 k 5) (λ a. a.row.0) (λ i a l o. rw o.1.1) λ i li.
     trip_check (fits (parameter i)) 6 λ fit.
-    trip_last (trip_field 0 m y) (λ j. record { right = right r; row = parameter i; column = parameter j }) (λ a. a.column.0) λ j lj. refl)
+    trip_last (trip_field 0 m x) (λ j. record { right = right r; row = parameter i; column = parameter j }) (λ a. a.column.0) λ j lj. refl)
     (λ a o. refl)
     (λ a o. search)
     (λ a o. search arith)
@@ -177,11 +177,11 @@ module _ (h : Head) (few : (h.rights ≤ 64) × (h.types ≤ 16)) where
   module _ (types : List ThingType) (eight : length types ≤ 8) where
     named_trip : Trip body (named h types) named_bytes (InRange h.rights (length types) (length types) (subject h types))
     unfolding named
-    named_trip = three_trip h.rights 5 (length types) (length types) 5 (subject h types) (omega arith) (omega arith) (omega arith)
+    named_trip = three_trip h.rights (length types) (length types) 5 (subject h types) (omega arith) (omega arith) (omega arith)
 
     thing_trip : (fits : Parameter → Bool) → Trip body (thing types fits) named_bytes (InRange 1 (length types) 1 fits)
     unfolding thing
-    thing_trip fits = three_trip 1 6 (length types) 1 6 fits (omega arith) (omega arith) (omega arith)
+    thing_trip fits = three_trip 1 (length types) 1 6 fits (omega arith) (omega arith) (omega arith)
 
     pub test_trip : Trip body (test h types) test_bytes (λ t. T (passes (test_fault h types t)))
     unfolding test test_bytes test_fault row_fault

@@ -3,7 +3,6 @@
 use Rattle.std.specs.Prelude.{ℕ, Bool, cond, List, [], ◌∷◌, eqb, leb, length}
 use Rattle.rights.specs.Sets.{within}
 use Rattle.rights.specs.Numberings.{right, type, parameter}
-use Rattle.rights.specs.declared.Right.{Right}
 use Rattle.rights.specs.declared.ThingType.{ThingType}
 use Rattle.rights.specs.declared.Parameter.{Parameter}
 use Rattle.model.specs.Scheme.{is_subject, type_at, creatable, destroyable}
@@ -15,6 +14,7 @@ use Rattle.model.specs.declared.Code.TheVariants.{Enter, Delete, Create, Destroy
 use Rattle.model.specs.declared.Operation.{Operation}
 use Rattle.model.specs.declared.Command.{Command}
 use Rattle.model.specs.declared.Head.{Head}
+pub use Rattle.command_bytes.specs.declared.fields.Named.{Named}
 use Rattle.records.specs.Reading.{Reader, Body, ◌>>=◌, ◌>>◌, done, check, steps, field, number}
 use Rattle.records.specs.Front.{Refusal, in_record}
 
@@ -28,12 +28,7 @@ head = do
   count ← field 1 33 4
   done (record { rights = n; types = m; subjects = record { 0 = subjects }; count = count })
 
--- ---- what a test names behind its sense, and an operation behind its code
-pub record Named : Type 0 where
-  pub right : Right
-  pub row : Parameter
-  pub column : Parameter
-
+-- ---- what a test names behind its sense, and an operation behind its code: `Named`
 -- a test, an enter and a delete: a right, a row of a subject type, a column
 unfoldable pub named : Head → List ThingType → Body Named
 named h types = do

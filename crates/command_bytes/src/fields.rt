@@ -1,175 +1,160 @@
 // The fields of a test and of an operation.
-ghost use Rattle.std.specs.Prelude.{◌≡◌, ◌≤◌, drop};
+ghost use Rattle.std.specs.Prelude.{◌≡◌, ◌≤◌, Bool, drop};
+ghost use Rattle.records.specs.Results.{value_of};
+ghost use Rattle.rights.specs.declared.Parameter.{Parameter};
 ghost use Rattle.accepted.specs.Answers.{before};
-ghost use Rattle.command_bytes.specs.Read.{named, test, code_of, thing, by_code, operation};
-ghost use Rattle.command_bytes.specs.Inner.Answers.{as_named, as_test, as_operation, form_of};
+ghost use Rattle.command_bytes.specs.Read.{type_in, named, test, code_of, by_code, operation};
+ghost use Rattle.command_bytes.specs.Inner.Parts.{three};
 ghost use Rattle.model.specs.Scheme.{parameters_of, tests_of};
 
-use crate::answers::{NamedAnswer, OperationAnswer, TestAnswer};
 use accepted::{creatable, destroyable, group_of, last_group, type_at};
+use faults::Fault;
 use model::{Code, Head, Operation, Operations, Parameters, Test, Tests};
-use records::Field;
-use rights::{Parameter, Right};
+use rights::{Parameter, Right, ThingType};
 
-// A right, a row of a subject type and a column, in the three bytes from i on.
-fn named_at(b: &[u8], i: usize, h: Head, p: Parameters) -> NamedAnswer
-    requires { (i ≤ 4096) × (p.count ≤ 8) }
-    ensures { result ≡ as_named (named h (parameters_of p) (drop i b.now)) }
-{
-    let right = records::field_at(b, i, 0, h.rights, 5);
-    let Field::Value(r) = right else {
-        return NamedAnswer::Fault(right.number());
-    };
-    let row = records::field_at(b, i + 1, 0, p.count, 5);
-    let Field::Value(x) = row else {
-        return NamedAnswer::Fault(row.number());
-    };
-    if !h.subjects.has(type_at(p, Parameter(x))) {
-        return NamedAnswer::Fault(6);
-    }
-    let column = records::field_at(b, i + 2, 0, p.count, 5);
-    let Field::Value(y) = column else {
-        return NamedAnswer::Fault(column.number());
-    };
-    NamedAnswer::Good {
-        right: Right(r),
-        row: Parameter(x),
-        column: Parameter(y),
-    }
+// What a test names behind its sense, and an operation behind its code.
+#[derive(Clone, Copy)]
+pub(crate) struct Named {
+    pub right: Right,
+    pub row: Parameter,
+    pub column: Parameter,
 }
 
-// The test in the four bytes from i on.
-pub(crate) fn test_at(b: &[u8], i: usize, h: Head, p: Parameters) -> TestAnswer
-    requires { (i ≤ 4000) × (p.count ≤ 8) }
-    ensures { result ≡ as_test (test h (parameters_of p) (drop i b.now)) }
-{
-    let sense = records::field_at(b, i, 0, 2, 6);
-    let Field::Value(v) = sense else {
-        return TestAnswer::Fault(sense.number());
-    };
-    let found = named_at(b, i + 1, h, p);
-    let NamedAnswer::Good { right, row, column } = found else {
-        return TestAnswer::Fault(found.number());
-    };
-    TestAnswer::Good(Test {
-        present: v == 1,
-        right,
-        row,
-        column,
-    })
+// What tests and operations are read against: the head, and the parameters, of which no more are in use than there are places.
+#[derive(Clone, Copy)]
+pub(crate) struct Scope {
+    pub head: Head,
+    pub parameters: Parameters,
+    ghost few: { parameters.count ≤ 8 },
 }
 
+// The type in the byte at i.
+#[tactic(auto, using(crate::proofs::FieldReads::type_lines))]
+pub(crate) fn type_in(b: &[u8], i: usize, h: Head) -> Result<ThingType, Fault>
+    ensures { result ≡ value_of (type_in h (drop i b.now)) }
+{
+    let t = records::field_at(b, i, 0, h.types, 5)?;
+    Ok(ThingType(t))
+}
+
+#[tactic(auto, unfolding(crate::specs::Read::code_of))]
 fn code_of(code: u8) -> Code
     ensures { result ≡ code_of code }
 {
-    if code == 1 {
-        return Code::Enter;
-    }
-    if code == 2 {
-        return Code::Delete;
-    }
-    if code == 3 {
-        return Code::Create;
-    }
-    Code::Destroy
-}
-
-// Whether a create, or else a destroy, of the parameter may stand behind these tests and the first n operations.
-fn in_form(t: Tests, o: Operations, n: usize, create: bool, p: Parameter) -> bool
-    ensures { result ≡ form_of (tests_of t) (before o n) create p }
-{
-    if create {
-        return creatable(t, o, n, p);
-    }
-    destroyable(o, n, p)
-}
-
-// The fields behind the code of a create, or else of a destroy.
-fn thing_at(
-    b: &[u8],
-    i: usize,
-    p: Parameters,
-    t: Tests,
-    o: Operations,
-    n: usize,
-    create: bool,
-) -> NamedAnswer
-    requires { (i ≤ 4096) × (p.count ≤ 8) }
-    ensures { result ≡ as_named (thing (parameters_of p) (form_of (tests_of t) (before o n) create) (drop i b.now)) }
-{
-    let right = records::field_at(b, i, 0, 1, 6);
-    let Field::Value(r) = right else {
-        return NamedAnswer::Fault(right.number());
-    };
-    let row = records::field_at(b, i + 1, 0, p.count, 5);
-    let Field::Value(x) = row else {
-        return NamedAnswer::Fault(row.number());
-    };
-    if !in_form(t, o, n, create, Parameter(x)) {
-        return NamedAnswer::Fault(6);
-    }
-    let column = records::field_at(b, i + 2, 0, 1, 6);
-    let Field::Value(y) = column else {
-        return NamedAnswer::Fault(column.number());
-    };
-    NamedAnswer::Good {
-        right: Right(r),
-        row: Parameter(x),
-        column: Parameter(y),
-    }
-}
-
-// The fields behind a code.
-fn by_code(
-    b: &[u8],
-    i: usize,
-    h: Head,
-    p: Parameters,
-    t: Tests,
-    o: Operations,
-    n: usize,
-    code: Code,
-) -> NamedAnswer
-    requires { (i ≤ 4096) × (p.count ≤ 8) }
-    ensures { result ≡ as_named (by_code h (parameters_of p) (tests_of t) (before o n) code (drop i b.now)) }
-{
     match code {
-        Code::Enter => named_at(b, i, h, p),
-        Code::Delete => named_at(b, i, h, p),
-        Code::Create => thing_at(b, i, p, t, o, n, true),
-        Code::Destroy => thing_at(b, i, p, t, o, n, false),
+        1 => Code::Enter,
+        2 => Code::Delete,
+        3 => Code::Create,
+        _ => Code::Destroy,
     }
 }
 
-// The operation in the four bytes from i on, behind the first n of those that were read.
-pub(crate) fn operation_at(
-    b: &[u8],
-    i: usize,
-    h: Head,
-    p: Parameters,
-    t: Tests,
-    o: Operations,
-    n: usize,
-) -> OperationAnswer
-    requires { (i ≤ 4000) × (p.count ≤ 8) }
-    ensures { result ≡ as_operation (operation h (parameters_of p) (tests_of t) (before o n) (drop i b.now)) }
-{
-    let number = records::field_at(b, i, 1, 5, 6);
-    let Field::Value(v) = number else {
-        return OperationAnswer::Fault(number.number());
-    };
-    let code = code_of(v);
-    if group_of(code) < last_group(o, n) {
-        return OperationAnswer::Fault(6);
+impl Scope {
+    // A right below `rights`, a row that fits and a column below `columns`, in the three bytes from i on. The number is that of a right and of a column
+    // out of range.
+    #[tactic(auto, using(crate::proofs::FieldReads::three_lines))]
+    fn three_at<F: Fn(Parameter) -> bool>(
+        self,
+        b: &[u8],
+        i: usize,
+        rights: u8,
+        columns: u8,
+        number: u8,
+        fits: F,
+    ) -> Result<Named, Fault>
+        requires place { i ≤ 4096 }
+        requires fit { F.IsAlwaysCallable fits }
+        ensures { (fit : Parameter → Bool) → ((p : Parameter) (r : Bool) → F.post fits p r → r ≡ fit p) → result ≡ value_of (three rights self.parameters.count columns number fit (drop i b.now)) }
+    {
+        let right = records::field_at(b, i, 0, rights, number)?;
+        let row = Parameter(records::field_at(b, i + 1, 0, self.parameters.count, 5)?);
+        if !fits(row) {
+            return Err(Fault::Form);
+        }
+        let column = records::field_at(b, i + 2, 0, columns, number)?;
+        Ok(Named {
+            right: Right(right),
+            row,
+            column: Parameter(column),
+        })
     }
-    let found = by_code(b, i + 1, h, p, t, o, n, code);
-    let NamedAnswer::Good { right, row, column } = found else {
-        return OperationAnswer::Fault(found.number());
-    };
-    OperationAnswer::Good(Operation {
-        code,
-        right,
-        row,
-        column,
-    })
+
+    // A right, a row of a subject type and a column.
+    fn named_at(self, b: &[u8], i: usize) -> Result<Named, Fault>
+        requires { i ≤ 4096 }
+        ensures { result ≡ value_of (named self.head (parameters_of self.parameters) (drop i b.now)) }
+    {
+        let subjects = self.head.subjects;
+        let p = self.parameters;
+        self.three_at(
+            b,
+            i,
+            self.head.rights,
+            p.count,
+            5,
+            |row| subjects.has(type_at(p, row)),
+        )
+    }
+
+    // The test in the four bytes from i on.
+    #[tactic(auto, using(crate::proofs::FieldReads::test_lines))]
+    pub(crate) fn test_at(self, b: &[u8], i: usize) -> Result<Test, Fault>
+        requires { i ≤ 4000 }
+        ensures { result ≡ value_of (test self.head (parameters_of self.parameters) (drop i b.now)) }
+    {
+        let sense = records::field_at(b, i, 0, 2, 6)?;
+        let found = self.named_at(b, i + 1)?;
+        Ok(Test {
+            present: sense == 1,
+            right: found.right,
+            row: found.row,
+            column: found.column,
+        })
+    }
+
+    // The fields behind a code, of an operation behind these tests and the first n operations. A create and a destroy have right 0 and column 0.
+    fn by_code(
+        self,
+        b: &[u8],
+        i: usize,
+        t: Tests,
+        o: Operations,
+        n: usize,
+        code: Code,
+    ) -> Result<Named, Fault>
+        requires { i ≤ 4096 }
+        ensures { result ≡ value_of (by_code self.head (parameters_of self.parameters) (tests_of t) (before o n) code (drop i b.now)) }
+    {
+        match code {
+            Code::Enter | Code::Delete => self.named_at(b, i),
+            Code::Create => self.three_at(b, i, 1, 1, 6, |row| creatable(t, o, n, row)),
+            Code::Destroy => self.three_at(b, i, 1, 1, 6, |row| destroyable(o, n, row)),
+        }
+    }
+
+    // The operation in the four bytes from i on, behind the first n of those that were read.
+    #[tactic(auto, using(crate::proofs::FieldReads::operation_lines))]
+    pub(crate) fn operation_at(
+        self,
+        b: &[u8],
+        i: usize,
+        t: Tests,
+        o: Operations,
+        n: usize,
+    ) -> Result<Operation, Fault>
+        requires { i ≤ 4000 }
+        ensures { result ≡ value_of (operation self.head (parameters_of self.parameters) (tests_of t) (before o n) (drop i b.now)) }
+    {
+        let code = code_of(records::field_at(b, i, 1, 5, 6)?);
+        if group_of(code) < last_group(o, n) {
+            return Err(Fault::Form);
+        }
+        let found = self.by_code(b, i + 1, t, o, n, code)?;
+        Ok(Operation {
+            code,
+            right: found.right,
+            row: found.row,
+            column: found.column,
+        })
+    }
 }

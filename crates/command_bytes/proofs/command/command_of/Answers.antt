@@ -1,38 +1,37 @@
--- `command::command_of` meets its contract: its tests are the lines of `command`, in their order.
+-- `command::command_of` meets its contract: its lists have the places that their counts say.
 -- Assumes nothing.
-use Prim.Native.Nat.{◌≤◌}
 use native.Mathlib.Omega.{arith}
-use mathlib.Core.Path.{refl, ◌∙◌}
+use mathlib.Core.Path.{sym}
+use borrow.Author.Tests.{lt-ltb}
 use Rattle.records.proofs.FieldLaws.{field_between}
-use Rattle.command_bytes.proofs.Told.{tells, field_tells, walk_tells}
-use Rattle.command_bytes.proofs.CommandLaws.{types_whole, no_types, bad_types, then_from}
-use borrow.Author.Rules.{rules}
+use Rattle.command_bytes.proofs.CommandLaws.{command_lines}
 use Rattle.command_bytes.proofs.command.command_of.Goals as goal
 
-pub returns-in_default : goal.returns-in_default
-returns-in_default c =
-    let e = field_tells c.field_at-many.ensures c.in_default.is c.number.ensures in
-    c.refused.ensures ∙ rw (no_types _ _ _ e)
+pub types_at-requires : goal.types_at-requires
+types_at-requires c = let k = field_between _ _ _ _ _ (sym c.in_ok-k.ensures) in omega arith
 
-pub types_at-found-requires : goal.types_at-found-requires
-types_at-found-requires c =
-    let k = field_between _ _ _ _ _ (tells c.field_at-many.ensures c.in-Value.is) in
-    search rules
+pub tests_at-requires : goal.tests_at-requires
+tests_at-requires c =
+    let k = field_between _ _ _ _ _ (sym c.in_ok-k.ensures) in
+    let t = field_between _ _ _ _ _ (sym c.in_ok-t.ensures) in
+    omega arith
 
-pub returns-in_default-answer : goal.returns-in_default-answer
-returns-in_default-answer c =
-    let ek = tells c.field_at-many.ensures c.in-Value.is in
-    c.refused-in_default-answer.ensures ∙ rw (bad_types _ _ _ ek c.types_at-found.ensures _ (walk_tells refl c.in_default-answer.is c.number-in_default-answer.ensures))
+pub operations_at-requires : goal.operations_at-requires
+operations_at-requires c =
+    let k = field_between _ _ _ _ _ (sym c.in_ok-k.ensures) in
+    let t = field_between _ _ _ _ _ (sym c.in_ok-t.ensures) in
+    let o = field_between _ _ _ _ _ (sym c.in_ok-o.ensures) in
+    omega arith
 
-pub command_from-requires : goal.command_from-requires
-command_from-requires c =
-    let a = c.args in
-    let k = field_between _ _ _ _ _ (tells c.field_at-many.ensures c.in-Value.is) in
-    let there = types_whole a.h c.in-Value.k a.b.now 1 c.types_at-found.ensures c.in-Whole.is in
-    let n : c.types_at-found.result.parameters.count ≤ 8 = omega arith in
-    search rules
-
-pub returns : goal.returns
-returns c =
-    let ek = tells c.field_at-many.ensures c.in-Value.is in
-    c.command_from.ensures ∙ rw (then_from _ _ _ ek c.types_at-found.ensures c.in-Whole.is)
+pub returns-then-j-o : goal.returns-then-j-o
+returns-then-j-o c =
+    rw (
+      command_lines c.args.head c.args.b.now,
+      sym c.in_ok-k.ensures,
+      sym c.in_ok-parameters.ensures,
+      sym c.in_ok-t.ensures,
+      sym c.in_ok-tests.ensures,
+      sym c.in_ok-o.ensures,
+      sym c.in_ok-operations.ensures,
+      lt-ltb _ _ c.if-j-o.true,
+    )

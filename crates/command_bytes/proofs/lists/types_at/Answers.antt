@@ -1,37 +1,26 @@
 -- `lists::types_at` meets its contract: after j turns j types are read, and stand at the array's start.
 -- Assumes nothing.
-use Prim.Native.Nat.{◌+◌}
 use native.Mathlib.Omega.{arith}
-use native.Mathlib.Nat.{add-zero}
 use mathlib.Core.List.{map-id}
-use mathlib.Core.Path.{◌≡◌, refl}
-use Rattle.model.specs.Scheme.{no_type}
-use Rattle.records.proofs.Loop.{looped_none, looped_on, looped_stop, looped_all, fill_next}
-use Rattle.command_bytes.proofs.Told.{tells, field_tells}
-use Rattle.command_bytes.proofs.ListLaws.{type_value, type_fault}
+use mathlib.Core.Path.{◌≡◌, sym}
+use Rattle.std.proofs.lemmas.Result.{err_from_is_err_and}
+use Rattle.model.specs.Arrays.{parameters_from}
+use Rattle.command_bytes.proofs.ListLaws.{filled_none, filled_on, filled_stop, filled_all}
 use Rattle.command_bytes.proofs.lists.types_at.Goals as goal
 
 pub loop-j-init : goal.loop-j-init
-loop-j-init c = (omega arith, rw add-zero looped_none, refl)
+loop-j-init c = filled_none
 
-pub returns-in_default : goal.returns-in_default
-returns-in_default c =
-    let f = field_tells c.field_at-found.ensures c.in_default.is c.number.ensures in
-    let e = type_fault c.args.h _ _ f in
-    rw (looped_stop c.loop-j.invariant.1 c.loop-j-test.true e, c.no_parameters.ensures)
+pub returns-in_err-types : goal.returns-in_err-types
+returns-in_err-types c =
+    let p = err_from_is_err_and c.from_residual.result c.from_residual.ensures.1 in
+    rw (p.1, p.2) (filled_stop c.loop-j.invariant (omega arith) (omega arith) parameters_from (sym c.in_err-types.ensures))
 
 pub loop-j-preserved : goal.loop-j-preserved
-loop-j-preserved c =
-    let l = c.loop-j in
-    let a = c.args in
-    let (m, v, e) = l.invariant in
-    let g = tells c.field_at-found.ensures c.in-Value.is in
-    let f = type_value a.b.now (a.i + l.j) (a.i + (l.j + 1)) a.h (omega arith) g in
-    (omega arith, looped_on v c.loop-j-test.true f, fill_next (λ t. t) no_type 8 v.items _ _ e v.count (omega arith))
+loop-j-preserved c = filled_on c.loop-j.invariant (omega arith) (omega arith) (omega arith) (sym c.in_ok-types.ensures)
 
 pub returns : goal.returns
 returns c =
-    let l = c.loop-j in
-    let (m, v, e) = l.invariant in
-    let d : l.j ≡ c.args.k = omega arith in
-    rw (looped_all v c.loop-j-test.false, e, map-id, v.count, d)
+    let v = c.loop-j.invariant in
+    let d : c.loop-j.j ≡ c.args.k = omega arith in
+    rw (filled_all v (omega arith) parameters_from, v.held, map-id, v.turns.count, d)
