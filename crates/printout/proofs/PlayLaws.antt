@@ -26,7 +26,7 @@ use Rattle.lines.specs.Put.{largest, put_text}
 use Rattle.lines.proofs.PutLaws.{from_start, put_then}
 use Rattle.lines.proofs.LineLaws.{few_in_line}
 use Rattle.scheme_bytes.specs.Answers.{read_scheme}
-use Rattle.scheme_bytes.specs.declared.answers.SchemeAnswer.{SchemeAnswer}
+use Rattle.scheme_bytes.specs.Answers.{SchemeAnswer}
 use Rattle.matrix_bytes.specs.Answers.{read_matrix}
 use Rattle.matrix_bytes.specs.MatrixAnswer.{MatrixAnswer}
 use Rattle.engine.specs.List.{run_answer, Result, run_on}

@@ -19,7 +19,7 @@ use Rattle.records.specs.Outcome.Writing.{Writing}
 use Rattle.records.proofs.Wrote.{wrote as was_written}
 use Rattle.scheme_bytes.specs.Write.{scheme_bytes, write_scheme}
 use Rattle.scheme_bytes.specs.Answers.{read_scheme}
-use Rattle.scheme_bytes.specs.declared.answers.SchemeAnswer.{SchemeAnswer}
+use Rattle.scheme_bytes.specs.Answers.{SchemeAnswer}
 use Rattle.scheme_bytes.proofs.FunctionTrips.{function_trips}
 use Rattle.matrix_bytes.specs.Answers.{read_matrix, read_matrix_by_head}
 use Rattle.matrix_bytes.specs.Write.{write_matrix}

@@ -16,7 +16,7 @@ use Rattle.scheme_bytes.specs.Answers.{as_scheme, read_scheme}
 use Rattle.scheme_bytes.specs.FunctionTrips.{FunctionTrips}
 use Rattle.scheme_bytes.specs.Read.{scheme}
 use Rattle.scheme_bytes.specs.Write.{scheme_bytes, write_scheme}
-use Rattle.scheme_bytes.specs.declared.answers.SchemeAnswer.{SchemeAnswer}
+use Rattle.scheme_bytes.specs.Answers.{SchemeAnswer}
 use Rattle.scheme_bytes.proofs.RoundTrips.{scheme_there, scheme_back}
 use Rattle.laws.proofs.Differ.{constructors_differ}
 

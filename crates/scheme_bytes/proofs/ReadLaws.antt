@@ -1,13 +1,15 @@
--- What the proofs of the functions in `read` and `reader` share: the ways through the commands and through what is behind the head, and that the head
--- and what is behind it are the scheme. Assumes nothing.
+-- What the proofs of the functions in `read` and `reader` share: the lines of a scheme as a function with `?` follows them, and that a head that was read
+-- is accepted. Assumes nothing.
 use Prim.Native.Nat.{ℕ, ◌-◌, ◌<◌, ◌≤◌}
 use native.Mathlib.Omega.{arith}
-use mathlib.Core.Bool.{true, false, ◌&&◌}
+use mathlib.Core.Bool.{Bool, true, false, cond, ◌&&◌}
 use mathlib.Core.List.{List, ◌++◌}
-use mathlib.Core.Path.{◌≡◌, refl, ap, ◌∙◌}
-use lib.Dec.{T, leb, ltb, leb→le, ltb→lt}
+use mathlib.Core.Path.{◌≡◌, refl, sym, ap, ◌∙◌}
+use lib.Dec.{T, leb, ltb, eqb, leb→le, ltb→lt}
 use lib.ListN.{length, replicate}
-use borrow.Author.Tests.{eq-eqb, ne_eqb}
+use Rattle.std.specs.Prelude.{Result, Ok, Err}
+use Rattle.faults.specs.Numbers.{fault_of}
+use Rattle.faults.specs.declared.Fault.TheVariants.{Leftover}
 use Rattle.rights.specs.Sets.{within}
 use Rattle.laws.proofs.Bools.{is_true, and_left, and_right}
 use Rattle.laws.proofs.Differ.{constructors_differ}
@@ -18,108 +20,84 @@ use Rattle.model.specs.declared.Head.{Head}
 use Rattle.model.specs.declared.Scheme.{Scheme}
 use Rattle.records.specs.Bytes.{part}
 use Rattle.records.specs.Front.{Refusal}
-use Rattle.records.specs.Reading.{Read, got, fault, Body, done, check, field, ◌>>=◌, ◌>>◌, byte, number}
-use Rattle.records.specs.Told.{of_reading, reading_place}
-use Rattle.records.specs.Outcome.Reading.{Reading}
-use Rattle.records.specs.Outcome.Reading as reading
+use Rattle.records.specs.Reading.{Read, got, fault, Body, bind, done, check, field, ◌>>=◌, ◌>>◌, byte, number}
+use Rattle.records.specs.Results.{refused, item_of}
+use Rattle.records.specs.declared.Refused.{Refused}
+use Rattle.records.proofs.Loop.{Looped, looped_stop}
 use Rattle.records.proofs.Trip.{bind_got, check_got, got_value}
 use Rattle.records.proofs.TripRecord.{in_record_back}
 use Rattle.command_bytes.specs.Read.{head, head_at, command_at}
-use Rattle.command_bytes.specs.Answers.{as_head_at, read_head, as_command_at, read_command, of_head_at, head_place}
-use Rattle.command_bytes.specs.declared.answers.HeadAt.{HeadAt}
-use Rattle.command_bytes.specs.declared.answers.HeadAt.TheVariants as head_answer
-use Rattle.command_bytes.specs.declared.answers.CommandAnswer.{CommandAnswer}
+use Rattle.command_bytes.specs.Answers.{read_head, read_command}
 use Rattle.command_bytes.proofs.Trips.{fits_head}
 use Rattle.scheme_bytes.specs.Read.{commands, at_end, scheme, scheme_rest}
-use Rattle.scheme_bytes.specs.Answers.{as_scheme, read_scheme}
-use Rattle.scheme_bytes.specs.Inner.Answers.{as_commands, head_found, read_rest}
-use Rattle.scheme_bytes.specs.declared.answers.CommandsAnswer.{CommandsAnswer}
+use Rattle.scheme_bytes.specs.Answers.{as_scheme, read_scheme, scheme_result}
+use Rattle.scheme_bytes.specs.Inner.Parts.{in_places}
 
--- ---- a refusal, by the number and the position that were asked of the answer
-pub reading_tells : {a : Reading} {k p n q : ℕ} → a ≡ reading.Refused k p → n ≡ (of_reading a).number → q ≡ reading_place a → a ≡ reading.Refused n q
-reading_tells {a} {k} {p} {n} {q} f g h = let x : n ≡ k = rw f at g in let y : q ≡ p = rw f at h in rw (x, y) f
+-- ---- a line: on with what was read and the next position, or out with the refusal
+module _ {A R : Type 0} (go : A → ℕ → R) (out : Refused → R) where
+  abbrev pub on_item : Result (A × ℕ) Refused → R
+  on_item (Ok (a, next)) = go a next
+  on_item (Err r) = out r
 
-pub head_tells : {a : HeadAt} {k p n q : ℕ} → a ≡ head_answer.Refused k p → n ≡ (of_head_at a).number → q ≡ head_place a → a ≡ head_answer.Refused n q
-head_tells {a} {k} {p} {n} {q} f g h = let x : n ≡ k = rw f at g in let y : q ≡ p = rw f at h in rw (x, y) f
+-- ---- from what was made of an item back to its reading
+module _ {A : Type 0} where
+  pub item_back : (m : Read ℕ Refusal A) {a : A} {next : ℕ} → item_of m ≡ Ok (a, next) → m ≡ got a next
+  item_back (got x n) {a = a} {next = next} e =
+      let p : ◌≡◌ {A = A × ℕ} (x, n) (a, next) = cc in
+      ap (λ (q : A × ℕ). got q.0 q.1) p
+  item_back (fault f) e = constructors_differ (cc)
 
--- ---- from an answer back to the reading
-refusal : {A : Type 0} (f : Refusal) {k q : ℕ} → reading.Refused f.number f.at ≡ reading.Refused k q →
-    ◌≡◌ {A = Read ℕ Refusal A} (fault f) (fault (record { number = k; at = q }))
-refusal f {k} {q} e = let g : f.number ≡ k = cc in let l : f.at ≡ q = cc in rw (← g, ← l)
+  pub refusal_back : (m : Read ℕ Refusal A) {r : Refused} → item_of m ≡ Err r → (f : Refusal) × (m ≡ fault f) × (r ≡ refused f.number f.at)
+  refusal_back (got x n) e = constructors_differ (cc)
+  refusal_back (fault f) {r = r} e = (f, refl, let g : refused f.number f.at ≡ r = cc in sym g)
 
-as_done : (m : Read ℕ Refusal Command) {r : CommandAnswer} {next : ℕ} → r ≡ as_command_at m → r.answer ≡ reading.Done next → m ≡ got r.command next
-as_done (got c n) {r} {next} er e = let f : reading.Done n ≡ reading.Done next = rw er at e in let g : n ≡ next = cc in rw (er, g)
-as_done (fault f) {r} {next} er e = let g : reading.Refused f.number f.at ≡ reading.Done next = rw er at e in constructors_differ (cc)
-
-as_refused : (m : Read ℕ Refusal Command) {r : CommandAnswer} {k q : ℕ} → r ≡ as_command_at m → r.answer ≡ reading.Refused k q →
-    m ≡ fault (record { number = k; at = q })
-as_refused (got c n) {r} {k} {q} er e = let g : reading.Done n ≡ reading.Refused k q = rw er at e in constructors_differ (cc)
-as_refused (fault f) er e = refusal f (rw er at e)
-
-module _ (s : List ℕ) (at : ℕ) (h : Head) (ok : T (accepted_head h)) {r : CommandAnswer} (er : r ≡ read_command s at h) where
-  opened : r ≡ as_command_at (command_at s h at)
+-- ---- the commands one by one, of an accepted head
+module _ (s : List ℕ) (next : ℕ) (h : Head) (ok : T (accepted_head h)) where
+  is_item : read_command s next h ≡ item_of (command_at s h next)
   unfolding read_command
-  opened = rw (is_true (accepted_head h) ok) at er
+  is_item = rw (is_true (accepted_head h) ok)
 
-  pub one_done : {next : ℕ} → r.answer ≡ reading.Done next → command_at s h at ≡ got r.command next
-  one_done e = as_done (command_at s h at) opened e
+  pub command_there : {c : Command} {n : ℕ} → Ok (c, n) ≡ read_command s next h → command_at s h next ≡ got c n
+  command_there e = item_back (command_at s h next) (sym (e ∙ is_item))
 
-  pub one_refused : {k q : ℕ} → r.answer ≡ reading.Refused k q → command_at s h at ≡ fault (record { number = k; at = q })
-  one_refused e = as_refused (command_at s h at) opened e
+  pub command_refused : {at j : ℕ} → Looped (λ (u : Unit {0}). command_at s h) (λ u c. u) h.count tt at j tt next → j < h.count → {r : Refused} →
+      Err r ≡ read_command s next h → Err r ≡ item_of (in_places (commands s h at))
+  command_refused v l e = let g = refusal_back (command_at s h next) (sym (e ∙ is_item)) in rw (looped_stop v l g.1) (ap Err g.2)
 
-all_done : (m : Read ℕ Refusal (List Command)) {r : CommandsAnswer} {next : ℕ} → r ≡ as_commands m → r.answer ≡ reading.Done next →
-    (cs : List Command) × (m ≡ got cs next) × (r.commands ≡ cs ++ replicate (32 - length cs) no_command)
-all_done (got cs n) {r} {next} er e =
-    let f : reading.Done n ≡ reading.Done next = rw er at e in let g : n ≡ next = cc in (cs, rw g, rw er)
-all_done (fault f) {r} {next} er e = let g : reading.Refused f.number f.at ≡ reading.Done next = rw er at e in constructors_differ (cc)
+-- ---- the lines: the commands behind a head, and the end
+module _ (s : List ℕ) (h : Head) where
+  abbrev ended : List Command → ℕ → Result (Scheme × ℕ) Refused
+  ended cs next = cond (eqb next (length s)) (Ok (record { head = h; commands = cs }, next)) (Err (record { fault = Leftover; at = next }))
 
-all_refused : (m : Read ℕ Refusal (List Command)) {r : CommandsAnswer} {k q : ℕ} → r ≡ as_commands m → r.answer ≡ reading.Refused k q →
-    m ≡ fault (record { number = k; at = q })
-all_refused (got cs n) {r} {k} {q} er e = let g : reading.Done n ≡ reading.Refused k q = rw er at e in constructors_differ (cc)
-all_refused (fault f) er e = refusal f (rw er at e)
+  end_line : (cs : List Command) (next : ℕ) (b : Bool) →
+      item_of (bind (cond b (got tt next) (fault (record { number = 8; at = next }))) (λ (u : Unit {0}). done (scheme_of h cs))) ≡
+      cond b (Ok (record { head = h; commands = cs ++ replicate (32 - length cs) no_command }, next)) (Err (record { fault = Leftover; at = next }))
+  unfolding scheme_of fault_of
+  end_line cs next true = refl
+  end_line cs next false = refl
 
--- ---- the ways through what is behind the head, as the returns of `read_rest` have them
-end_before : (s : List ℕ) (at : ℕ) → (at ≡ length s → ⊥) → at_end s at ≡ fault (record { number = 8; at = at })
-unfolding at_end
-end_before s at n = rw (ne_eqb at (length s) n)
+  pub rest_lines : (at : ℕ) → item_of (scheme_rest s h at) ≡ on_item ended Err (item_of (in_places (commands s h at)))
+  unfolding scheme_rest at_end
+  rest_lines at = go (commands s h at)
+    where
+      go : (m : Read ℕ Refusal (List Command)) → item_of (bind m (λ cs. at_end s >> done (scheme_of h cs))) ≡ on_item ended Err (item_of (in_places m))
+      go (got cs next) = end_line cs next (eqb next (length s))
+      go (fault f) = refl
 
-end_there : (s : List ℕ) (at : ℕ) → at ≡ length s → at_end s at ≡ got tt at
-unfolding at_end
-end_there s at e = rw (eq-eqb at (length s) e)
-
-module _ (s : List ℕ) (table : Scheme) where
-  pub head_refused : (k q : ℕ) → as_scheme table (fault (record { number = k; at = q })) ≡ read_rest s (head_answer.Refused k q) table
-  unfolding read_rest
-  head_refused k q = refl
-
-  module _ (h : Head) (from : ℕ) where
-    pub no_head : accepted_head h ≡ false → as_scheme table (fault (record { number = 27; at = 0 })) ≡ read_rest s (head_answer.Good h from) table
-    unfolding read_rest
-    no_head e = rw e
-
-    all_there : accepted_head h ≡ true → {cs : List Command} {next : ℕ} → commands s h from ≡ got cs next → next ≡ length s →
-        record { answer = reading.Done next; scheme = record { head = h; commands = cs ++ replicate (32 - length cs) no_command } } ≡
-        read_rest s (head_answer.Good h from) table
-    unfolding read_rest scheme_rest scheme_of
-    all_there ok {cs} {next} d e = rw (ok, d, end_there s next e)
-
-    module _ (ok : accepted_head h ≡ true) {r : CommandsAnswer} (er : r ≡ as_commands (commands s h from)) where
-      pub bad_commands : (k q : ℕ) → r.answer ≡ reading.Refused k q →
-          as_scheme table (fault (record { number = k; at = q })) ≡ read_rest s (head_answer.Good h from) table
-      unfolding read_rest scheme_rest
-      bad_commands k q f = rw (ok, all_refused (commands s h from) er f)
-
-      module _ (next : ℕ) (f : r.answer ≡ reading.Done next) where
-        pub bytes_behind : (next ≡ length s → ⊥) →
-            as_scheme table (fault (record { number = 8; at = next })) ≡ read_rest s (head_answer.Good h from) table
-        unfolding read_rest scheme_rest
-        bytes_behind n = rw (ok, (all_done (commands s h from) er f).1, end_before s next n)
-
-        pub no_bytes_behind : next ≡ length s →
-            record { answer = reading.Done next; scheme = record { head = h; commands = r.commands } } ≡ read_rest s (head_answer.Good h from) table
-        no_bytes_behind e =
-            let (cs, d, z) = all_done (commands s h from) er f in
-            ap (λ (x : List Command). record { answer = reading.Done next; scheme = record { head = h; commands = x } }) z ∙ all_there ok d e
+-- the head, and what is behind it
+pub scheme_lines : (s : List ℕ) (table : Scheme) → scheme_result (read_scheme s table) ≡
+    on_item (λ h from. on_item (λ x next. (Ok next, x)) (λ r. (Err r, table)) (item_of (scheme_rest s h from))) (λ r. (Err r, table)) (read_head s 0)
+unfolding read_scheme scheme read_head
+scheme_lines s table = go (head_at s 0)
+  where
+    go : (m : Read ℕ Refusal Head) → scheme_result (as_scheme table (bind m (scheme_rest s))) ≡
+        on_item (λ h from. on_item (λ x next. (Ok next, x)) (λ r. (Err r, table)) (item_of (scheme_rest s h from))) (λ r. (Err r, table)) (item_of m)
+    go (got h from) = by (scheme_rest s h from)
+      where
+        by : (m : Read ℕ Refusal Scheme) → scheme_result (as_scheme table m) ≡ on_item (λ x next. (Ok next, x)) (λ r. (Err r, table)) (item_of m)
+        by (got x next) = refl
+        by (fault f) = refl
+    go (fault f) = refl
 
 -- ---- a head that was read is accepted
 field_in : (low limit k : ℕ) (r : List ℕ) {v : ℕ} {t : List ℕ} → field low limit k r ≡ got v t → (low ≤ v) × (v < limit)
@@ -157,15 +135,14 @@ good_head =
           }));
     }
 
--- ---- the head and what is behind it are the scheme
-found_back : (m : Read ℕ Refusal Head) → ((h : Head) (next : ℕ) → m ≡ got h next → T (accepted_head h)) → head_found (as_head_at m) ≡ m
-found_back (got h next) good = rw (is_true (accepted_head h) (good h next refl))
-found_back (fault f) good = refl
-
-pub read_both : (s : List ℕ) (table : Scheme) → read_rest s (read_head s 0) table ≡ read_scheme s table
-unfolding read_rest read_head read_scheme scheme
-read_both s table =
-    rw (
-    found_back (head_at s 0) λ h next e.
-    let (kind, start, len, f, g, z) = in_record_back s 2 (λ kind. head) 0 e in good_head.shown (part s start len) g
-    )
+pub head_good : (s : List ℕ) {h : Head} {from : ℕ} → read_head s 0 ≡ Ok (h, from) → T (accepted_head h)
+unfolding read_head
+head_good s e = go (head_at s 0) refl e
+  where
+    go : (m : Read ℕ Refusal Head) {h : Head} {from : ℕ} → head_at s 0 ≡ m → item_of m ≡ Ok (h, from) → T (accepted_head h)
+    go (got x next) {h} {from} d f =
+        let (kind, start, len, _, g, z) = in_record_back s 2 (λ kind. head) 0 d in
+        let p : ◌≡◌ {A = Head × ℕ} (x, next) (h, from) = cc in
+        let i : x ≡ h = ap (λ (q : Head × ℕ). q.0) p in
+        rw (← i) (good_head.shown (part s start len) g)
+    go (fault x) d f = absurd (cc)

@@ -1,12 +1,18 @@
--- The answer of `read_scheme`, from what `Read` gives.
+-- The answer of `read_scheme`, from what `Read` gives; and what the function gives for it.
 -- Assumes nothing.
-use Rattle.std.specs.Prelude.{ℕ, List}
+use Rattle.std.specs.Prelude.{ℕ, List, Result}
 use Rattle.model.specs.declared.Scheme.{Scheme}
 use Rattle.records.specs.Reading.{Read, got, fault}
 use Rattle.records.specs.Front.{Refusal}
-use Rattle.records.specs.Outcome.Reading.{Done, Refused}
+use Rattle.records.specs.Outcome.Reading.{Reading, Done, Refused}
+use Rattle.records.specs.Results.{reading_result}
+use Rattle.records.specs.declared.Refused as refused
 use Rattle.scheme_bytes.specs.Read.{scheme}
-use Rattle.scheme_bytes.specs.declared.answers.SchemeAnswer.{SchemeAnswer}
+
+-- where the reading ended, and what the table then holds
+pub record SchemeAnswer : Type 0 where
+  pub answer : Reading
+  pub scheme : Scheme
 
 -- the content and the next position; or the number with the record's position, and the table as it stood
 abbrev pub as_scheme : Scheme → Read ℕ Refusal Scheme → SchemeAnswer
@@ -15,3 +21,7 @@ as_scheme table (fault f) = record { answer = Refused f.number f.at; scheme = ta
 
 unfoldable pub read_scheme : List ℕ → Scheme → SchemeAnswer
 read_scheme bytes table = as_scheme table (scheme bytes 0)
+
+-- the function's result, with what the lent table then holds
+abbrev pub scheme_result : SchemeAnswer → Result ℕ refused.Refused × Scheme
+scheme_result a = (reading_result a.answer, a.scheme)

@@ -1,2 +1,2 @@
 -- What only private functions of this crate cite; nobody outside has to believe it.
-pub mod Answers
+pub mod Parts

@@ -7,10 +7,10 @@ use model::{Head, Scheme};
 use rights::TypeSet;
 
 // A table to read into: no rights, no types, no commands. No reading gives it, so it is 27 everywhere.
+#[tactic(auto, unfolding(model::specs::Arrays::no_scheme, model::specs::Arrays::scheme_of))]
 pub fn no_scheme() -> Scheme
     ensures { result ≡ no_scheme }
 {
-    let none = no_command();
     Scheme {
         head: Head {
             rights: 0,
@@ -18,6 +18,6 @@ pub fn no_scheme() -> Scheme
             subjects: TypeSet(0),
             count: 0,
         },
-        commands: [none; Scheme::PLACES],
+        commands: [no_command(); Scheme::PLACES],
     }
 }

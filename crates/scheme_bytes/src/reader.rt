@@ -1,47 +1,48 @@
 // A scheme is a head and its commands, then the end: the thin reader that holds the slice.
-ghost use Rattle.std.specs.Prelude.{◌≡◌};
+ghost use Rattle.std.specs.Prelude.{◌≡◌, T, ℕ, Result};
+ghost use Rattle.model.specs.Accepted.{accepted_head};
+ghost use Rattle.model.specs.declared.Scheme.{Scheme};
+ghost use Rattle.records.specs.Results.{item_of};
+ghost use Rattle.records.specs.declared.Refused.{Refused};
 ghost use Rattle.command_bytes.specs.Answers.{read_head};
-ghost use Rattle.scheme_bytes.specs.Answers.{read_scheme};
-ghost use Rattle.scheme_bytes.specs.Inner.Answers.{read_rest};
+ghost use Rattle.scheme_bytes.specs.Read.{scheme_rest};
+ghost use Rattle.scheme_bytes.specs.Answers.{read_scheme, scheme_result};
 
-use crate::answers::SchemeAnswer;
 use crate::read::read_rest;
-use command_bytes::{HeadAt, read_head};
-use model::Scheme;
+use command_bytes::read_head;
+use model::{Head, Scheme};
+use records::Refused;
 
 #[derive(Clone, Copy)]
-pub(crate) struct SchemeReader<'a> {
-    pub input: &'a [u8],
-}
-
-pub(crate) fn scheme_reader<'a>(input: &'a [u8]) -> SchemeReader<'a>
-    ensures { result.input ≡ input.entry }
-{
-    SchemeReader { input }
+struct SchemeReader<'a> {
+    input: &'a [u8],
 }
 
 impl<'a> SchemeReader<'a> {
-    // The head, at the start of the input.
-    pub(crate) fn head(self) -> HeadAt
+    // The head, at the start of the input, and the position behind it.
+    fn head(self) -> Result<(Head, usize), Refused>
         ensures { result ≡ read_head self.entry.input.now 0 }
     {
         read_head(self.input, 0)
     }
 
-    // The commands behind the head that was found, and the end.
-    pub(crate) fn rest(self, found: HeadAt, table: Scheme) -> SchemeAnswer
-        ensures { result ≡ read_rest self.entry.input.now found table }
+    // The scheme of this head, from the commands behind it up to the end.
+    fn rest(self, from: usize, head: Head) -> Result<(Scheme, usize), Refused>
+        requires { T (accepted_head head) }
+        ensures { result ≡ item_of (scheme_rest self.entry.input.now head from) }
     {
-        read_rest(self.input, found, table)
+        read_rest(self.input, from, head)
     }
 }
 
-// The whole of an input as a scheme; where it is refused, the table comes back as it was handed in.
-// No other crate sees the struct, which would take a head that no reading gives.
-pub fn read_scheme(s: &[u8], table: Scheme) -> SchemeAnswer
-    ensures { result ≡ read_scheme s.now table }
+// The whole of an input as a scheme, into the table; where it is refused, the table stays as it is.
+#[tactic(auto, using(crate::proofs::ReadLaws::scheme_lines))]
+pub fn read_scheme(s: &[u8], table: &mut Scheme) -> Result<usize, Refused>
+    ensures { ◌≡◌ {A = Result ℕ Refused × Scheme} (result, table.new) (scheme_result (read_scheme s.now table.old)) }
 {
-    let reader = scheme_reader(s);
-    let found = reader.head();
-    reader.rest(found, table)
+    let reader = SchemeReader { input: s };
+    let (head, from) = reader.head()?;
+    let (scheme, next) = reader.rest(from, head)?;
+    *table = scheme;
+    Ok(next)
 }

@@ -3,48 +3,37 @@
 use Prim.Native.Nat.{◌≤◌}
 use native.Mathlib.Omega.{arith}
 use mathlib.Core.List.{map-id}
-use mathlib.Core.Path.{◌∙◌}
-use lib.Dec.{T}
-use borrow.Author.Rules.{rules}
-use Rattle.model.specs.Accepted.{accepted_head}
+use Rattle.std.proofs.lemmas.Result.{err_from_is_err_and}
 use Rattle.model.specs.Arrays.{no_command}
-use Rattle.records.proofs.Loop.{looped_none, looped_on, looped_stop, looped_all, fill_next}
+use Rattle.records.proofs.Loop.{looped_none, looped_on, looped_all, fill_next}
 use Rattle.command_bytes.proofs.Trips.{head_fits}
-use Rattle.scheme_bytes.proofs.ReadLaws.{reading_tells, one_done, one_refused}
+use Rattle.scheme_bytes.proofs.ReadLaws.{command_there, command_refused}
 use Rattle.scheme_bytes.proofs.read.read_commands.Goals as goal
 use Rattle.scheme_bytes.proofs.read.read_commands.Goals.{At-loop-j}
 
--- the head is accepted, and so has at most 32 commands
-abbrev good : (c : At-loop-j) → T (accepted_head c.args.h)
-good c = c.requires
-
+-- an accepted head has at most 32 commands
 few : (c : At-loop-j) → c.args.h.count ≤ 32
-few c = (head_fits _ (good c)).count.1
+few c = (head_fits _ c.requires).count.1
 
 pub loop-j-init : goal.loop-j-init
-loop-j-init c = (omega arith, looped_none, rw c.no_command-none.ensures)
+loop-j-init c = (looped_none, rw c.no_command-commands.ensures)
 
-pub returns-in_default : goal.returns-in_default
-returns-in_default c =
-    let e = one_refused _ _ _ (good (goal.at.returns-in_default c).At-loop-j) c.read_command-read.ensures (reading_tells c.in_default.is c.number.ensures c.at.ensures) in
-    c.no_commands.ensures ∙ rw (looped_stop c.loop-j.invariant.1 c.loop-j-test.true e)
-
-pub offset_bounds-commands-j : goal.offset_bounds-commands-j
-offset_bounds-commands-j c = let n = few (goal.at.offset_bounds-commands-j c).At-loop-j in search rules
+pub returns-in_err-commands : goal.returns-in_err-commands
+returns-in_err-commands c =
+    let p = err_from_is_err_and c.from_residual.result c.from_residual.ensures.1 in
+    rw (p.1, p.2) (command_refused _ _ _ c.requires c.loop-j.invariant.0 (omega arith) c.in_err-commands.ensures)
 
 pub bounds-commands-j : goal.bounds-commands-j
-bounds-commands-j c = let n = few (goal.at.bounds-commands-j c).At-loop-j in search rules
+bounds-commands-j c = let n = few (goal.at.bounds-commands-j c).At-loop-j in omega arith
 
 pub loop-j-preserved : goal.loop-j-preserved
 loop-j-preserved c =
-    let l = c.loop-j in
-    let a = c.args in
-    let (m, v, e) = l.invariant in
     let n = few (goal.at.loop-j-preserved c).At-loop-j in
-    let f = one_done a.s.now l.p a.h (good (goal.at.loop-j-preserved c).At-loop-j) c.read_command-read.ensures c.in-Done.is in
-    (omega arith, looped_on v c.loop-j-test.true f, fill_next (λ x. x) no_command 32 v.items _ _ e v.count (omega arith))
+    let (v, e) = c.loop-j.invariant in
+    (looped_on v (omega arith) (command_there _ _ _ c.requires c.in_ok-commands.ensures), fill_next (λ x. x) no_command 32 v.items _ _ e v.count (omega arith))
 
 pub returns : goal.returns
 returns c =
-    let (m, v, e) = c.loop-j.invariant in
-    rw (looped_all v c.loop-j-test.false, e, map-id, v.count)
+    let (v, e) = c.loop-j.invariant in
+    let d : c.args.h.count ≤ c.loop-j.j = omega arith in
+    rw (looped_all v d, e, map-id, v.count)

@@ -1,6 +1,6 @@
 -- `read::read_commands` meets its contract: after j turns j commands are read, and stand at the array's start.
 -- Assumes nothing.
-use Prim.Native.Nat.{◌-◌, ◌≤◌}
+use Prim.Native.Nat.{◌-◌}
 use mathlib.Core.List.{◌++◌, map}
 use mathlib.Core.Path.{◌≡◌}
 use lib.ListN.{replicate}
@@ -12,9 +12,5 @@ use Rattle.scheme_bytes.proofs.read.read_commands.Given as goal
 
 abbrev pub invariant-loop-j : goal.invariant-loop-j
 invariant-loop-j l =
-    (l.j ≤ l.h.count) ×
-    (v : Looped (λ (u : Unit {0}). command_at l.s l.h) (λ u x. u) l.h.count tt l.at l.j tt l.p) ×
+    (v : Looped (λ (u : Unit {0}). command_at l.s l.h) (λ u x. u) l.h.count tt l.at l.j tt l.next) ×
     (l.commands ≡ map (λ (x : Command). x) v.items ++ replicate (32 - l.j) no_command)
-
-abbrev pub decreases-loop-j : goal.decreases-loop-j
-decreases-loop-j l = l.h.count - l.j

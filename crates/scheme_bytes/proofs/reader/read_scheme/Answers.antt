@@ -1,7 +1,8 @@
--- `scheme_bytes::reader::read_scheme` meets its contract: the head that was found, and the rest behind it, are the whole.
+-- `reader::read_scheme` meets its contract: a head that was read is accepted.
 -- Assumes nothing.
-use Rattle.scheme_bytes.proofs.ReadLaws.{read_both}
+use mathlib.Core.Path.{sym}
+use Rattle.scheme_bytes.proofs.ReadLaws.{head_good}
 use Rattle.scheme_bytes.proofs.reader.read_scheme.Goals as goal
 
-pub returns : goal.returns
-returns c = cc (read_both c.args.s.now c.args.table)
+pub rest-requires : goal.rest-requires
+rest-requires c = head_good _ (sym c.in_ok-head.ensures)
