@@ -7,8 +7,8 @@ use mathlib.Core.Path.{◌≡◌, refl, sym, ap, ◌∙◌}
 use mathlib.Core.Bool.{Bool, true, false, cond}
 use mathlib.Core.List.{List, [], ◌∷◌, ◌++◌}
 use lib.Dec.{T, eqb→eq}
-use lib.ListN.{length, take, drop, get_or, set, length-append}
-use lib.Seq.{sets, length-take-le}
+use lib.ListN.{length, take, drop, get_or, set, length-append, length-take}
+use lib.Seq.{sets, get_or-take, length-take-le}
 use mir.Val.{bool_byte}
 use borrow.Author.Tests.{le-leb}
 use Rattle.rights.specs.Numberings.{right_byte, parameter_byte}
@@ -245,21 +245,34 @@ records-few h (c ∷ cs) o =
     )
 
 module _ (s : Scheme) (t : T (accepted_scheme s)) where
+  pub commands_there : (s.head.count ≤ 32) × (s.head.count ≤ length s.commands)
+  commands_there =
+      let p = accepted_parts s t in
+      let f = head_fits s.head p.head in
+      (omega arith, omega (arith, p.long, length-take s.head.count s.commands))
+
   pub commands_fit : s.head.count ≤ 32
-  commands_fit = let f = head_fits s.head (accepted_parts s t).head in omega arith
+  commands_fit = commands_there.0
 
   pub commands_few : length (each_bytes command_record (commands_of s)) ≤ 8192
   commands_few =
       let p = accepted_parts s t in
       omega (arith, commands_fit, p.long, records-few s.head (commands_of s) p.commands)
 
+  used_small : (d : Command) (j : ℕ) → j < length (commands_of s) → Small (get_or (commands_of s) j d)
+  unfolding accepted_scheme
+  used_small d j h =
+      let a : T (all (accepted_command s.head) (commands_of s)) = search (and_left, and_right) in
+      accepted_small s.head _ (all_at (accepted_command s.head) (commands_of s) d a j h)
+
+  pub command_small : (d : Command) (j : ℕ) → j < s.head.count → Small (get_or s.commands j d)
+  command_small d j h =
+      rw (get_or-take s.head.count s.commands j d h) at (used_small d j (omega (arith, (accepted_parts s t).long)))
+
   -- one of them, at a turn
   module _ (j : ℕ) (h : j < length (commands_of s)) where
-    pub command_small : Small (get_or (commands_of s) j past)
-    unfolding accepted_scheme
-    command_small =
-        let a : T (all (accepted_command s.head) (commands_of s)) = search (and_left, and_right) in
-        accepted_small s.head _ (all_at (accepted_command s.head) (commands_of s) past a j h)
+    pub turn_small : Small (get_or (commands_of s) j past)
+    turn_small = used_small past j h
 
     pub commands_next : length (each_bytes command_record (drop j (commands_of s))) ≡
         4 + length (command_bytes (get_or (commands_of s) j past)) + length (each_bytes command_record (drop (j + 1) (commands_of s)))

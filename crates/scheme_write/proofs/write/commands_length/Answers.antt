@@ -3,11 +3,11 @@
 use native.Mathlib.Omega.{arith}
 use mathlib.Core.Path.{ap}
 use lib.ListN.{length}
-use Rattle.scheme_write.proofs.WriteLaws.{command_record, each_none, commands_few, command_small, commands_next}
+use Rattle.scheme_write.proofs.WriteLaws.{command_record, each_none, commands_few, turn_small, commands_next}
 use Rattle.scheme_write.proofs.write.commands_length.Goals as goal
 
 pub command_length-requires : goal.command_length-requires
-command_length-requires c = command_small _ c.requires _ c.loop-c-test.true
+command_length-requires c = turn_small _ c.requires _ c.loop-c-test.true
 
 pub overflow_add-sum : goal.overflow_add-sum
 overflow_add-sum c = omega (arith, commands_few _ c.requires, c.loop-c.invariant, commands_next _ c.requires _ c.loop-c-test.true)
