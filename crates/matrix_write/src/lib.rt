@@ -1,5 +1,5 @@
 // A matrix's bytes, into a lent buffer. What they are is said in `matrix_bytes`, beside what is read.
-#![tactic(auto)]
+#![tactic(auto, unfolding(faults::specs::Numbers::fault_of))]
 
 mod write;
 

@@ -7,8 +7,8 @@ use mathlib.Core.Path.{◌≡◌, refl, sym, ap, ◌∙◌}
 use mathlib.Core.Bool.{Bool, true, false, cond}
 use mathlib.Core.List.{List, [], ◌∷◌, ◌++◌}
 use lib.Dec.{T, eqb→eq}
-use lib.ListN.{length, take, drop, get_or, set, length-append, length-take, drop_of_length-le}
-use lib.Seq.{sets, length-sets, get_or-take, length-take-le}
+use lib.ListN.{length, take, drop, get_or, set, length-append, length-take}
+use lib.Seq.{sets, get_or-take, length-take-le}
 use mir.Val.{bool_byte}
 use borrow.Author.Tests.{le-leb}
 use Rattle.rights.specs.Numberings.{right_byte, parameter_byte}
@@ -22,7 +22,7 @@ use Rattle.model.specs.declared.Head.{Head}
 use Rattle.model.specs.declared.Scheme.{Scheme}
 use Rattle.laws.proofs.Bools.{and_left, and_right}
 use Rattle.model.proofs.Form.{all_at}
-use Rattle.laws.proofs.Walks.{turn_used}
+use Rattle.laws.proofs.Walks.{turn, ended}
 use Rattle.records.specs.Bytes.{little_endian, record_bytes, each_bytes}
 use Rattle.records.specs.Writing.{placed, write_bytes}
 use Rattle.records.specs.Outcome.Writing.{Writing}
@@ -37,72 +37,70 @@ use Rattle.command_bytes.proofs.Trips.{head_fits}
 use Rattle.command_bytes.proofs.CommandTrip.{accepted_back}
 use Rattle.scheme_bytes.proofs.RoundTrips.{accepted_parts}
 
--- ---- the first n elements of an array, one a turn, after j turns
-module _ {A : Type 0} (f : A → List ℕ) (xs : List A) (n j : ℕ) where
-  pub each_one : (d : A) → j < n → n ≤ length xs →
-      each_bytes f (drop j (take n xs)) ≡ f (get_or xs j d) ++ each_bytes f (drop (j + 1) (take n xs))
-  each_one d h k = rw (turn_used xs n k j d h)
+-- ---- the elements of a list, one a turn, after j turns
+module _ {A : Type 0} (f : A → List ℕ) (xs : List A) (j : ℕ) where
+  pub each_one : (x d : A) → j < length xs → x ≡ get_or xs j d → each_bytes f (drop j xs) ≡ f x ++ each_bytes f (drop (j + 1) xs)
+  each_one x d h e = rw (turn xs (length xs) refl j d h, ← e)
 
-  pub each_none : n ≤ j → each_bytes f (drop j (take n xs)) ≡ []
-  each_none h = let e : drop j (take n xs) ≡ [] = drop_of_length-le (take n xs) {i = j} (omega (arith, length-take n xs)) in rw e
+  pub each_none : length xs ≤ j → each_bytes f (drop j xs) ≡ []
+  each_none h = rw (ended xs (length xs) refl j h)
 
--- stored in one part: after j turns, storing the rest at p gives the whole
-pub record Storing {A : Type 0} (f : A → List ℕ) (xs : List A) (n : ℕ) (part₀ : List ℕ) (i : ℕ) (part : List ℕ) (p j : ℕ) : Type 0 where
-  pub there : n ≤ length xs
-  pub same : length part ≡ length part₀
-  pub whole : sets part₀ i (each_bytes f (take n xs)) ≡ sets part p (each_bytes f (drop j (take n xs)))
+-- stored in one part, each of few bytes: after j turns, storing the rest at p gives the whole
+pub record Storing {A : Type 0} (f : A → List ℕ) (xs : List A) (part₀ : List ℕ) (i : ℕ) (part : List ℕ) (p j : ℕ) : Type 0 where
+  pub near : p ≤ i + 4 * j
+  pub ends : p + length (each_bytes f (drop j xs)) ≡ i + length (each_bytes f xs)
+  pub whole : sets part₀ i (each_bytes f xs) ≡ sets part p (each_bytes f (drop j xs))
 
-module _ {A : Type 0} (f : A → List ℕ) {xs : List A} {n : ℕ} {part₀ : List ℕ} {i : ℕ} where
-  pub storing_start : (p : ℕ) → n ≤ length xs → p ≡ i → Storing f xs n part₀ i part₀ p 0
-  storing_start p h e = record { there = h; same = refl; whole = rw e }
+module _ {A : Type 0} {f : A → List ℕ} {xs : List A} {part₀ : List ℕ} {i : ℕ} where
+  pub storing_start : Storing f xs part₀ i part₀ i 0
+  storing_start = record { near = omega arith; ends = refl; whole = refl }
 
-  module _ {part : List ℕ} {p j : ℕ} (v : Storing f xs n part₀ i part p j) where
-    pub storing_on : (d : A) (part' : List ℕ) (q : ℕ) → j < n → part' ≡ sets part p (f (get_or xs j d)) → q ≡ p + length (f (get_or xs j d)) →
-        Storing f xs n part₀ i part' q (j + 1)
-    storing_on d part' q h o e =
+  module _ {part : List ℕ} {p j : ℕ} (v : Storing f xs part₀ i part p j) where
+    pub storing_on : (x d : A) (part' : List ℕ) (q : ℕ) → j < length xs → x ≡ get_or xs j d → length (f x) ≤ 4 → part' ≡ sets part p (f x) →
+        q ≡ p + length (f x) → Storing f xs part₀ i part' q (j + 1)
+    storing_on x d part' q h is few o e =
+        let one = each_one f xs j x d h is in
         record {
-          there = v.there;
-          same = ap length o ∙ length-sets part p (f (get_or xs j d)) ∙ v.same;
-          whole = v.whole ∙ rw (each_one f xs n j d h v.there, sets_append, o, e);
+          near = omega (arith, v.near);
+          ends = omega (arith, v.ends, ap length one, length-append (f x) (each_bytes f (drop (j + 1) xs)));
+          whole = v.whole ∙ rw (one, sets_append, o, e);
         }
 
-    pub storing_end : n ≤ j → part ≡ sets part₀ i (each_bytes f (take n xs))
-    storing_end h = sym (v.whole ∙ rw (each_none f xs n j h))
+    pub storing_end : length xs ≤ j → (part ≡ sets part₀ i (each_bytes f xs)) × (p ≡ i + length (each_bytes f xs))
+    storing_end h = let none = each_none f xs j h in (sym (v.whole ∙ rw none), omega (arith, v.ends, ap length none))
 
 -- placed in the parts of an output, each behind the one before it: after j turns, placing the rest at p gives the whole
-pub record Placing {A : Type 0} (f : A → List ℕ) (xs : List A) (n : ℕ) (out₀ : List ℕ) (at : ℕ) (out : List ℕ) (p j : ℕ) : Type 0 where
-  pub there : n ≤ length xs
+pub record Placing {A : Type 0} (f : A → List ℕ) (xs : List A) (out₀ : List ℕ) (at : ℕ) (out : List ℕ) (p j : ℕ) : Type 0 where
   pub same : length out ≡ length out₀
-  pub room : p + length (each_bytes f (drop j (take n xs))) ≤ length out
-  pub whole : placed out₀ at (each_bytes f (take n xs)) ≡ placed out p (each_bytes f (drop j (take n xs)))
+  pub room : p + length (each_bytes f (drop j xs)) ≤ length out
+  pub whole : placed out₀ at (each_bytes f xs) ≡ placed out p (each_bytes f (drop j xs))
 
-module _ {A : Type 0} {f : A → List ℕ} {xs : List A} {n : ℕ} {out₀ : List ℕ} {at : ℕ} where
-  pub placing_start : n ≤ length xs → at + length (each_bytes f (take n xs)) ≤ length out₀ → Placing f xs n out₀ at out₀ at 0
-  placing_start k h = record { there = k; same = refl; room = h; whole = refl }
+module _ {A : Type 0} {f : A → List ℕ} {xs : List A} {out₀ : List ℕ} {at : ℕ} where
+  pub placing_start : at + length (each_bytes f xs) ≤ length out₀ → Placing f xs out₀ at out₀ at 0
+  placing_start h = record { same = refl; room = h; whole = refl }
 
-  module _ {out : List ℕ} {p j : ℕ} (v : Placing f xs n out₀ at out p j) where
-    pub placing_end : n ≤ j → out ≡ placed out₀ at (each_bytes f (take n xs))
-    placing_end h = sym (v.whole ∙ rw (each_none f xs n j h) (placed_none out p))
+  module _ {out : List ℕ} {p j : ℕ} (v : Placing f xs out₀ at out p j) where
+    pub placing_end : length xs ≤ j → out ≡ placed out₀ at (each_bytes f xs)
+    placing_end h = sym (v.whole ∙ rw (each_none f xs j h) (placed_none out p))
 
-    module _ (d : A) (h : j < n) where
-      placing_room : p + length (f (get_or xs j d)) + length (each_bytes f (drop (j + 1) (take n xs))) ≤ length out
+    module _ (x d : A) (h : j < length xs) (is : x ≡ get_or xs j d) where
+      placing_room : p + length (f x) + length (each_bytes f (drop (j + 1) xs)) ≤ length out
       placing_room =
-          let l = length-append (f (get_or xs j d)) (each_bytes f (drop (j + 1) (take n xs))) in
-          omega (arith, v.room, ap length (each_one f xs n j d h v.there))
+          let l = length-append (f x) (each_bytes f (drop (j + 1) xs)) in
+          omega (arith, v.room, ap length (each_one f xs j x d h is))
 
-      pub placing_on : (q : ℕ) (out' : List ℕ) → q ≡ p + length (f (get_or xs j d)) →
-          out' ≡ take p out ++ (sets (take (length out - p) (drop p out)) 0 (f (get_or xs j d)) ++ drop (length out - p) (drop p out)) →
-          Placing f xs n out₀ at out' q (j + 1)
+      pub placing_on : (q : ℕ) (out' : List ℕ) → q ≡ p + length (f x) →
+          out' ≡ take p out ++ (sets (take (length out - p) (drop p out)) 0 (f x) ++ drop (length out - p) (drop p out)) →
+          Placing f xs out₀ at out' q (j + 1)
       placing_on q out' e o =
-          let (x, r) : List ℕ × List ℕ = (f (get_or xs j d), each_bytes f (drop (j + 1) (take n xs))) in
-          let fits : p + length x ≤ length out = omega (arith, placing_room) in
-          let w : out' ≡ placed out p x = o ∙ part_placed out p x fits in
-          let l : length out' ≡ length out = ap length w ∙ length_placed out p x fits in
+          let r : List ℕ = each_bytes f (drop (j + 1) xs) in
+          let fits : p + length (f x) ≤ length out = omega (arith, placing_room) in
+          let w : out' ≡ placed out p (f x) = o ∙ part_placed out p (f x) fits in
+          let l : length out' ≡ length out = ap length w ∙ length_placed out p (f x) fits in
           record {
-            there = v.there;
             same = l ∙ v.same;
             room = omega (arith, placing_room);
-            whole = v.whole ∙ rw (each_one f xs n j d h v.there, w, e) (sym (placed_behind out p x r placing_room));
+            whole = v.whole ∙ rw (each_one f xs j x d h is, w, e) (sym (placed_behind out p (f x) r placing_room));
           }
 
 -- ---- the parts' bytes, one behind the other
@@ -134,30 +132,28 @@ module _ (l : List ℕ) (i : ℕ) where
   operation_stored o = rw add-one
 
 -- three lists, each behind its count
-three_stored : (l : List ℕ) (k m n : ℕ) (x y z : List ℕ) (p q : ℕ) → p ≡ 5 + length x → q ≡ p + 1 + length y →
-    sets (set (sets (set (sets (set l 4 k) 5 x) p m) (p + 1) y) q n) (q + 1) z ≡ sets l 4 (k ∷ x ++ m ∷ y ++ n ∷ z)
-three_stored l k m n x y z p q e f =
-    let g : 5 + length (x ++ m ∷ y) ≡ q = omega (arith, length-append x (m ∷ y)) in
-    rw (sets_append (set l 4 k) 5 (x ++ m ∷ y) (n ∷ z), sets_append (set l 4 k) 5 x (m ∷ y), g, ← e, add-one p, add-one q)
+three_stored : (l : List ℕ) (x y z : List ℕ) (p q : ℕ) → p ≡ 4 + length x → q ≡ p + length y → sets (sets (sets l 4 x) p y) q z ≡ sets l 4 (x ++ y ++ z)
+three_stored l x y z p q e f =
+    let g : 4 + length (x ++ y) ≡ q = omega (arith, length-append x y) in rw (sets_append l 4 (x ++ y) z, sets_append l 4 x y, g, ← e)
 
 abbrev pub command_record : Command → List ℕ
 command_record c = record_bytes 2 (command_bytes c)
 
 module _ (c : Command) (s : Small c) where
-  types_long : length (parameters_of c.parameters) ≡ c.parameters.count
+  pub types_long : length (parameters_of c.parameters) ≡ c.parameters.count
   types_long = length-take-le c.parameters.count c.parameters.types (omega arith)
 
-  tests_long : length (tests_of c.tests) ≡ c.tests.count
+  pub tests_long : length (tests_of c.tests) ≡ c.tests.count
   tests_long = length-take-le c.tests.count c.tests.list (omega arith)
 
-  operations_long : length (operations_of c.operations) ≡ c.operations.count
+  pub operations_long : length (operations_of c.operations) ≡ c.operations.count
   operations_long = length-take-le c.operations.count c.operations.list (omega arith)
 
-  length_types : length (each_bytes type_bytes (parameters_of c.parameters)) ≡ c.parameters.count
+  pub length_types : length (each_bytes type_bytes (parameters_of c.parameters)) ≡ c.parameters.count
   unfolding type_bytes
   length_types = omega (arith, types_long, length_all type_bytes 1 (λ t. refl) (parameters_of c.parameters))
 
-  length_tests : length (each_bytes test_bytes (tests_of c.tests)) ≡ 4 * c.tests.count
+  pub length_tests : length (each_bytes test_bytes (tests_of c.tests)) ≡ 4 * c.tests.count
   unfolding test_bytes
   length_tests = omega (arith, tests_long, length_all test_bytes 4 (λ t. refl) (tests_of c.tests))
 
@@ -182,18 +178,23 @@ module _ (c : Command) (s : Small c) where
   length_command_record : length (command_record c) ≤ 207
   length_command_record = omega (arith, length_record 2 (command_bytes c), length_command)
 
-  pub command_stored : (l : List ℕ) (len : ℕ) → len ≡ length (command_bytes c) →
-      sets (set (sets (set (sets (set (sets (sets l 0 (little_endian 2 len)) 2 (little_endian 2 2)) 4 c.parameters.count) 5
-      (each_bytes type_bytes (parameters_of c.parameters))) (5 + c.parameters.count) c.tests.count) (5 + c.parameters.count + 1)
-      (each_bytes test_bytes (tests_of c.tests))) (5 + c.parameters.count + 1 + 4 * c.tests.count) c.operations.count)
-      (5 + c.parameters.count + 1 + 4 * c.tests.count + 1) (each_bytes operation_bytes (operations_of c.operations)) ≡ sets l 0 (command_record c)
-  unfolding command_bytes
-  command_stored l len e =
-      three_stored (sets (sets l 0 (little_endian 2 len)) 2 (little_endian 2 2)) c.parameters.count c.tests.count c.operations.count
-      (each_bytes type_bytes (parameters_of c.parameters)) (each_bytes test_bytes (tests_of c.tests)) (each_bytes operation_bytes (operations_of c.operations)) _ _
-      (omega (arith, length_types)) (omega (arith, length_tests)) ∙ record_stored l 2 len (command_bytes c) e
+  abbrev its_types : List ℕ
+  its_types = length (parameters_of c.parameters) ∷ each_bytes type_bytes (parameters_of c.parameters)
 
--- ---- the commands of an accepted scheme, and what stands past the end of the array that holds them
+  abbrev its_tests : List ℕ
+  its_tests = length (tests_of c.tests) ∷ each_bytes test_bytes (tests_of c.tests)
+
+  abbrev its_operations : List ℕ
+  its_operations = length (operations_of c.operations) ∷ each_bytes operation_bytes (operations_of c.operations)
+
+  pub command_stored : (l : List ℕ) (len : ℕ) → len ≡ length (command_bytes c) → (p q : ℕ) → p ≡ 4 + length its_types → q ≡ p + length its_tests →
+      sets (sets (sets (sets (sets l 0 (little_endian 2 len)) 2 (little_endian 2 2)) 4 its_types) p its_tests) q its_operations ≡ sets l 0 (command_record c)
+  unfolding command_bytes
+  command_stored l len e p q f g =
+      three_stored (sets (sets l 0 (little_endian 2 len)) 2 (little_endian 2 2)) its_types its_tests its_operations p q f g
+      ∙ rw (types_long, tests_long, operations_long) (record_stored l 2 len (command_bytes c) e)
+
+-- ---- the commands of an accepted scheme, and what stands past the end of a list of them
 abbrev pub past : Command
 past = record {
   parameters = record { count = 0; types = [] };
@@ -201,17 +202,20 @@ past = record {
   operations = record { count = 0; list = [] };
 }
 
-module _ {xs : List Command} {n : ℕ} {out₀ : List ℕ} {at : ℕ} {out : List ℕ} {p j : ℕ} (v : Placing command_record xs n out₀ at out p j) (h : j < n) where
-  command_long : length (command_record (get_or xs j past)) ≡ 4 + length (command_bytes (get_or xs j past))
-  command_long = length_record 2 (command_bytes (get_or xs j past))
+module _ {xs : List Command} {out₀ : List ℕ} {at : ℕ} {out : List ℕ} {p j : ℕ} (v : Placing command_record xs out₀ at out p j) (h : j < length xs) where
+  abbrev here : Command
+  here = get_or xs j past
 
-  pub command_room : p + 4 + length (command_bytes (get_or xs j past)) ≤ length out
-  command_room = omega (arith, placing_room v past h, command_long)
+  command_long : length (command_record here) ≡ 4 + length (command_bytes here)
+  command_long = length_record 2 (command_bytes here)
 
-  pub command_on : (m : ℕ) (out' : List ℕ) → m ≡ length (command_bytes (get_or xs j past)) →
-      out' ≡ take p out ++ (sets (take (length out - p) (drop p out)) 0 (command_record (get_or xs j past)) ++ drop (length out - p) (drop p out)) →
-      Placing command_record xs n out₀ at out' (p + 4 + m) (j + 1)
-  command_on m out' e o = placing_on v past h (p + 4 + m) out' (omega (arith, command_long)) o
+  pub command_room : p + 4 + length (command_bytes here) ≤ length out
+  command_room = omega (arith, placing_room v here past h refl, command_long)
+
+  pub command_on : (q : ℕ) (out' : List ℕ) → q ≡ p + (4 + length (command_bytes here)) →
+      out' ≡ take p out ++ (sets (take (length out - p) (drop p out)) 0 (command_record here) ++ drop (length out - p) (drop p out)) →
+      Placing command_record xs out₀ at out' q (j + 1)
+  command_on q out' e o = placing_on v here past h refl q out' (omega (arith, command_long)) o
 
 accepted_small : (h : Head) (c : Command) → T (accepted_command h c) → Small c
 unfolding accepted_command padded_command padded
@@ -247,24 +251,32 @@ module _ (s : Scheme) (t : T (accepted_scheme s)) where
       let f = head_fits s.head p.head in
       (omega arith, omega (arith, p.long, length-take s.head.count s.commands))
 
+  pub commands_fit : s.head.count ≤ 32
+  commands_fit = commands_there.0
+
   pub commands_few : length (each_bytes command_record (commands_of s)) ≤ 8192
   commands_few =
       let p = accepted_parts s t in
-      omega (arith, commands_there.0, p.long, records-few s.head (commands_of s) p.commands)
+      omega (arith, commands_fit, p.long, records-few s.head (commands_of s) p.commands)
+
+  used_small : (d : Command) (j : ℕ) → j < length (commands_of s) → Small (get_or (commands_of s) j d)
+  unfolding accepted_scheme
+  used_small d j h =
+      let a : T (all (accepted_command s.head) (commands_of s)) = search (and_left, and_right) in
+      accepted_small s.head _ (all_at (accepted_command s.head) (commands_of s) d a j h)
 
   pub command_small : (d : Command) (j : ℕ) → j < s.head.count → Small (get_or s.commands j d)
-  unfolding accepted_scheme
   command_small d j h =
-      let a : T (all (accepted_command s.head) (commands_of s)) = search (and_left, and_right) in
-      let l : j < length (commands_of s) = omega (arith, (accepted_parts s t).long) in
-      accepted_small s.head _ (rw (get_or-take s.head.count s.commands j d h) at (all_at (accepted_command s.head) (commands_of s) d a j l))
+      rw (get_or-take s.head.count s.commands j d h) at (used_small d j (omega (arith, (accepted_parts s t).long)))
 
-  -- one a turn, after j turns
-  pub commands_next : (d : Command) (j : ℕ) → j < s.head.count →
-      length (each_bytes command_record (drop j (commands_of s))) ≡
-      4 + length (command_bytes (get_or s.commands j d)) + length (each_bytes command_record (drop (j + 1) (commands_of s)))
-  commands_next d j h =
-      rw (each_one command_record s.commands s.head.count j d h commands_there.1, length-append, length_record)
+  -- one of them, at a turn
+  module _ (j : ℕ) (h : j < length (commands_of s)) where
+    pub turn_small : Small (get_or (commands_of s) j past)
+    turn_small = used_small past j h
+
+    pub commands_next : length (each_bytes command_record (drop j (commands_of s))) ≡
+        4 + length (command_bytes (get_or (commands_of s) j past)) + length (each_bytes command_record (drop (j + 1) (commands_of s)))
+    commands_next = rw (each_one command_record (commands_of s) j _ past h refl, length-append, length_record)
 
 -- ---- the answers of a writing
 module _ (out : List ℕ) (s : Scheme) where

@@ -5,4 +5,4 @@ use Rattle.scheme_write.proofs.WriteLaws.{length_command}
 use Rattle.scheme_write.proofs.write.command_length.Goals as goal
 
 pub returns : goal.returns
-returns c = sym (length_command c.args.c c.requires)
+returns c = sym (length_command c.args.c.now c.requires)
