@@ -5,15 +5,21 @@ from dataclasses import dataclass
 
 SPACE = re.compile(r"(?:\s|//[^\n]*)*")
 TOKEN = re.compile(
-    r"""(?P<unknown>/\*|[bc]?r\#*")"""
+    r"""(?P<unknown>/\*|[bc]?r\#*"|r\#\w)"""
     r"""|(?P<ghost_use>ghost\s+use\s+[^\s;{}]+(?:\{[^;{}]*\})?;)"""
+    r"""|(?P<ghost_given>ghost\s+\w+\s*=\s*(?=\{))"""
     r"""|(?P<clause>(?:(?:requires|ensures)\b\s*(?:\*\s*)?(?:\w+\s*)?|ghost\b\s*(?:\w+\s*:\s*)?)(?=\{))"""
-    r"""|(?P<text>[bc]?"(?:\\.|[^"\\])*")|(?P<char>b?'(?:\\[^']+|[^'\\])')|(?P<lifetime>'[a-z_]\w*)"""
-    r"""|(?P<word>[A-Za-z_]\w*)|(?P<number>[0-9]\w*)|(?P<sign>::|->|[^\w\s])""",
+    r"""|(?P<text>[bc]?"(?:\\.|[^"\\])*")"""
+    r"""|(?P<char>b?'(?:\\(?:x[0-9a-fA-F]{2}|u\{[0-9a-fA-F_]+\}|[nrt0'"\\])|[^'\\\n])')|(?P<lifetime>'[A-Za-z_]\w*)"""
+    r"""|(?P<word>[A-Za-z_]\w*)|(?P<number>[0-9]\w*)|(?P<sign>::|->|[^\w\s'"\\])""",
     re.ASCII | re.DOTALL,
 )
 IN_CLAUSE = re.compile(r"""--|\{-|"|⟦|«[^»]*»|[{}]""")
+DEFAULT = re.compile(r"\s*=\s*(?=\{)")
 CLOSING = {"(": ")", "[": "]", "{": "}"}
+
+# the traits that std derives; another name would be a macro's, which could write any function
+DERIVES = set("Clone Copy Debug PartialEq Eq PartialOrd Ord Hash Drop Default".split())
 
 
 class Refused(Exception):
@@ -27,8 +33,10 @@ class Token:
     line: int
 
 
-# `asks` tells that a function has a `requires`, or binds a ghost value, which can ask as much; `exported`, that it is made for C. `head` is a function's text
-# from its name to its last clause, `body` what it does, each token by token.
+# `asks` tells that a function has a `requires`, or binds a ghost value, which can ask as much; `exported`, that it is made for C; `odd`, why no line could be
+# said of it, if so. `head` is a function's text from its name to its last clause, `body` what it does, each token by token. Of an `impl` of a trait `path`
+# and `arguments` are the trait's and `name` the type's ("" where it is no plain name), of an import `path` is what the name stands for; `members` are the
+# items of a trait or an `impl` of one.
 @dataclass
 class Item:
     kind: str
@@ -38,8 +46,13 @@ class Item:
     place: str
     asks: bool = False
     exported: bool = False
+    odd: str = ""
     head: tuple = ()
     body: tuple = ()
+    path: tuple = ()
+    arguments: tuple = ()
+    members: tuple = ()
+    derives: tuple = ()
 
 
 # a clause's text is antt's; where it ends is sure only if nothing in it can hide a brace
@@ -55,6 +68,7 @@ def end_of_clause(text, start, place):
     raise Refused(f"{place}: a clause without an end")
 
 
+# a ghost member's declaration may have a second pair of braces, its default
 def tokens_of(text, path):
     tokens, line, counted, at = [], 1, 0, SPACE.match(text).end()
     while at < len(text):
@@ -63,8 +77,13 @@ def tokens_of(text, path):
         if not found or found.lastgroup == "unknown" or found[0] in ("requires", "ensures", "ghost"):
             raise Refused(f"{path}:{line}: text that isn't known here: {text[at : at + 12]!r}")
         kind, end = found.lastgroup, found.end()
+        if kind in ("clause", "ghost_given"):
+            end = end_of_clause(text, end, f"{path}:{line}")
         if kind == "clause":
-            kind, end = re.match(r"[a-z]+", found[0])[0], end_of_clause(text, end, f"{path}:{line}")
+            kind = re.match(r"[a-z]+", found[0])[0]
+        default = DEFAULT.match(text, end) if kind == "ghost" else None
+        if default:
+            kind, end = "ghost_default", end_of_clause(text, default.end(), f"{path}:{line}")
         tokens.append(Token(kind, text[at:end], line))
         at = SPACE.match(text, end).end()
     return tokens
@@ -98,13 +117,16 @@ class Reader:
             self.refuse(f"{self.next()!r} where a name is awaited")
         return self.take()
 
-    # one token, or all from an opening bracket to its closing one; no `impl` may stand in what isn't read
-    def skip(self):
-        if self.next() == "impl":
+    # One token, or all from an opening bracket to its closing one. No `impl` may stand in what isn't read, but as a type in a function's head (`types`).
+    def skip(self, types=False):
+        if self.next() == "impl" and not types:
             self.refuse("an `impl` inside of another item")
-        closing = CLOSING.get(self.take())
+        if self.next() in CLOSING.values():
+            self.refuse(f"{self.next()!r} without what it closes")
+        opening = self.take()
+        closing = CLOSING.get(opening)
         while closing and self.next() != closing:
-            self.skip()
+            self.skip(types and opening != "{")
         if closing:
             self.take(closing)
 
@@ -112,42 +134,73 @@ class Reader:
         while self.next() not in ends:
             self.skip()
 
-    def lifetimes(self):
-        if self.next() == "<":
-            self.skip_to(">")
-            self.take(">")
+    # what stands between < and >, part by part, as it is told in a message
+    def angles(self):
+        if self.next() != "<":
+            return []
+        self.take("<")
+        parts, depth = [[]], 1
+        while depth > 1 or self.next() != ">":
+            depth += {"<": 1, ">": -1}.get(self.next(), 0)
+            start, comma = self.at, self.next() == "," and depth == 1
+            self.skip()
+            if comma:
+                parts.append([])
+            else:
+                parts[-1] += self.since(start)
+        self.take(">")
+        return [tuple(part) for part in parts if part]
+
+    # the same without the lifetimes
+    def arguments(self):
+        return [part for part in self.angles() if not re.match(r"'\w+$", part[0])]
 
     # the tokens from one place to here, with one space for any in a clause
     def since(self, start):
         return tuple(" ".join(token.text.split()) for token in self.tokens[start : self.at])
 
+    # whether a function could be handed on in these tokens as a value
+    def refuse_functions(self, start):
+        if {"fn", "dyn"} & set(self.since(start)):
+            self.refuse("a value of this type can be a function: nothing could be said of it")
+
     def items(self):
         if self.next() == "#" and self.next(1) == "!":
-            for part in ("#", "!", "[", "tactic", "(", "auto", ")", "]"):
+            for part in ("#", "!", "[", "tactic"):
                 self.take(part)
+            self.tactic("auto")
+            self.take("]")
         found = []
         while self.at < len(self.tokens):
-            found += self.item("")
+            found += self.item("file", "")
         return found
 
-    # an item of the file (no owner), or of an impl; an impl gives its own items
-    def item(self, owner):
+    # an item of the file, or of an `impl`, of a trait (`trait`), or of an `impl` of one (`given`); an `impl` gives its own items
+    def item(self, within, owner):
         place = self.place()
-        if self.kind() == "ghost_use" and not owner:
+        if self.kind() == "ghost_use":
             return [Item("ghost_use", self.take(), False, owner, place)]
-        attributes = set()
+        if self.kind() in {"trait": ("ghost", "ghost_default"), "given": ("ghost_given",)}.get(within, ()):
+            self.take()
+            self.take(";")
+            return []
+        attributes = {}
         while self.next() == "#":
-            attributes.add(self.attribute())
+            attributes |= self.attribute()
+        if within in ("trait", "given") and self.next() == "pub":
+            self.refuse("a `pub` where none can stand")
         public = self.visibility()
         exported = self.next() == "extern" and self.next(1) == '"C"'
         if exported:
             self.at += 2
-            if self.next() != "fn":
+            if self.next() != "fn" or within in ("trait", "given"):
                 self.refuse("a function of C is declared: its contract would be assumed")
         kind = self.take()
         forms = {"fn": self.function, "const": self.constant}
-        if not owner:
-            forms |= {"mod": self.module, "use": self.use, "struct": self.type, "enum": self.type, "impl": self.implement}
+        if within == "file":
+            forms |= {"mod": self.module, "use": self.use, "struct": self.type, "enum": self.type, "impl": self.implement, "trait": self.trait}
+        if within != "impl":
+            forms["type"] = self.alias
         if kind not in forms:
             self.at -= 1
             self.refuse(f"an item that isn't known here: {'pub ' if public else ''}{kind}")
@@ -156,19 +209,46 @@ class Reader:
         found = forms[kind](public, owner, place)
         if exported:
             found[0].exported = True
+        if within == "trait" and kind == "fn":
+            return found
+        if kind == "fn" and not found[0].body:
+            self.refuse(f"`{found[0].name}` has no body")
+        if "derive" in attributes:
+            found[0].derives = attributes["derive"]
         return found
 
-    # what may stand before an item: an export, what every plain value is, and hints for the search of a proof
+    # what may stand before an item: an export, what std derives, and hints for the search of a proof
     def attribute(self):
         self.take("#")
         self.take("[")
         kind, start = self.take("unsafe", "derive", "tactic"), self.at
-        self.skip()
+        if kind == "tactic":
+            self.tactic("auto", "none")
+        else:
+            self.skip()
         given = self.since(start)
-        if kind != "tactic" and given != {"unsafe": ("(", "no_mangle", ")"), "derive": ("(", "Clone", ",", "Copy", ")")}[kind]:
+        traits = tuple(word for word in given if word in DERIVES)
+        if kind == "derive" and [word for word in given[1:-1] if word != ","] != list(traits) or kind == "unsafe" and given != ("(", "no_mangle", ")"):
             self.refuse(f"an attribute that isn't known here: {kind}{' '.join(given)}")
         self.take("]")
-        return kind
+        return {kind: traits}
+
+    # (auto, using(path, ..), unfolding(path, ..))
+    def tactic(self, *first):
+        self.take("(")
+        self.take(*first)
+        while self.next() == ",":
+            self.take(",")
+            if self.next() == ")":
+                break
+            self.take("using", "unfolding")
+            self.take("(")
+            while self.next() != ")":
+                self.name_path()
+                if self.next() != ")":
+                    self.take(",")
+            self.take(")")
+        self.take(")")
 
     def visibility(self):
         if self.next() != "pub":
@@ -180,23 +260,36 @@ class Reader:
             self.take(part)
         return False
 
+    # Each `impl Trait` of a head is one more parameter of the function. That a function has no body only a trait's reader may pass over.
     def function(self, public, owner, place):
-        start, name, asks = self.at, self.word(), False
+        start, name = self.at, self.word()
+        generic = self.arguments()
+        if self.next() != "(":
+            self.refuse(f"{self.next()!r} where ( is awaited")
         while self.next() not in ("{", ";"):
-            asks = asks or self.kind() in ("requires", "ghost")
-            self.skip()
-        if self.next() == ";":
-            self.refuse(f"`{name}` has no body")
-        head, start = self.since(start), self.at
+            self.skip(types=True)
+        tokens, head = self.tokens[start : self.at], self.since(start)
+        asks = any(token.kind == "requires" or token.kind.startswith("ghost") for token in tokens)
+        odd = "is generic" if generic or "impl" in head else "takes or gives a function" if {"fn", "dyn"} & set(head) else ""
+        body = self.at
         self.skip()
-        return [Item("fn", name, public, owner, place, asks, head=head, body=self.since(start))]
+        return [Item("fn", name, public, owner, place, asks, odd=odd, head=head, body=self.since(body) if self.next(-1) != ";" else ())]
 
     def constant(self, public, owner, place):
-        name = self.word()
+        name, start = self.word(), self.at
         self.take(":")
         self.skip_to(";")
         self.take(";")
+        self.refuse_functions(start)
         return [Item("const", name, public, owner, place)]
+
+    # a type's second name, or a type that belongs to a trait
+    def alias(self, public, owner, place):
+        name, start = self.word(), self.at
+        self.skip_to(";")
+        self.take(";")
+        self.refuse_functions(start)
+        return [Item("alias", name, public, owner, place, head=self.since(start))]
 
     def module(self, public, owner, place):
         if public:
@@ -205,12 +298,12 @@ class Reader:
         self.take(";")
         return [Item("mod", name, False, owner, place)]
 
-    # what is imported for the file itself may have any form
+    # what is imported for the file itself stands under its own name, one by one: so it is known what a name stands for
     def use(self, public, owner, place):
         if not public:
-            self.skip_to(";")
+            found = [Item("use", path[-1], False, owner, place, path=path) for path in self.tree(())]
             self.take(";")
-            return [Item("use", "", False, owner, place)]
+            return found
         module = self.word()
         self.take("::")
         names = self.names() if self.next() == "{" else [self.word()]
@@ -218,6 +311,24 @@ class Reader:
             self.refuse("a `pub use` that isn't of the form `pub use module::name;`")
         self.take(";")
         return [Item("hand", name, True, module, place) for name in names]
+
+    def tree(self, before):
+        if self.next() != "{":
+            path = before + (self.word(),)
+            if self.next() == "as":
+                self.refuse("an import under another name")
+            if self.next() != "::":
+                return [before if path[-1] == "self" and before else path]
+            self.take("::")
+            return self.tree(path)
+        self.take("{")
+        paths = []
+        while self.next() != "}":
+            paths += self.tree(before)
+            if self.next() != "}":
+                self.take(",")
+        self.take("}")
+        return paths
 
     # names between braces
     def names(self):
@@ -230,25 +341,53 @@ class Reader:
         self.take("}")
         return names
 
+    def name_path(self):
+        path = [self.word()]
+        while self.next() == "::":
+            self.take("::")
+            path.append(self.word())
+        return tuple(path)
+
     def type(self, public, owner, place):
-        name = self.word()
-        self.lifetimes()
+        name, start = self.word(), self.at
+        self.angles()
         self.skip_to("{", ";")
         self.skip()
+        self.refuse_functions(start)
         return [Item("type", name, public, owner, place)]
 
-    def implement(self, public, owner, place):
-        self.lifetimes()
-        name = self.word()
-        self.lifetimes()
-        if self.next() != "{":
-            self.refuse("an `impl` that isn't of the form `impl Name { .. }`")
+    def trait(self, public, owner, place):
+        start, name = self.at, self.word()
+        self.skip_to("{")
+        head, members = self.since(start), self.members("trait", name)
+        return [Item("trait", name, public, owner, place, head=head, members=members), *(member for member in members if member.kind == "ghost_use")]
+
+    def members(self, within, owner):
         self.take("{")
         found = []
         while self.next() != "}":
-            found += self.item(name)
+            found += self.item(within, owner)
         self.take("}")
         return found
+
+    def implement(self, public, owner, place):
+        generic = self.arguments()
+        path, arguments = self.name_path(), self.arguments()
+        if self.next() != "for":
+            if self.next() != "{" or len(path) != 1:
+                self.refuse("an `impl` that isn't of the form `impl Name { .. }` or `impl Trait for Name { .. }`")
+            found = self.members("impl", path[0])
+            for item in found:
+                item.odd = item.odd or ("is generic" if generic or arguments else "")
+            return found
+        self.take("for")
+        name = self.word() if self.kind() == "word" else ""
+        plain = not self.arguments() and self.next() in ("{", "where")
+        self.skip_to("{")
+        members = self.members("given", name)
+        odd = "is generic" if generic else ""
+        given = Item("impl", name if plain else "", False, owner, place, odd=odd, path=path, arguments=tuple(arguments), members=members)
+        return [given, *(member for member in members if member.kind == "ghost_use")]
 
 
 def items_of(path, text):
