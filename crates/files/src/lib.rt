@@ -9,6 +9,7 @@ mod told;
 mod write;
 
 pub use both::write_two;
-pub use read::{Loaded, read_file};
-pub use told::tell_failure;
-pub use write::write_file;
+pub use names::text_of;
+pub use read::{LONGEST, read_file};
+pub use told::{Told, tell, tell_error};
+pub use write::Output;

@@ -1,67 +1,25 @@
-// A file's bytes, in a lent buffer.
-ghost use Rattle.std.specs.Prelude.{◌≤◌, length, IfOk};
-
-use crate::names::text_of;
-use crate::told::tell_failure;
+// A file's bytes.
+use crate::told::{Told, tell_error};
 use std::fs::File;
-use std::io::{ErrorKind, Read, Result};
+use std::io;
+use std::io::{ErrorKind, Read};
 
-// How much of a file was put into a buffer; or that there is none, or that the system couldn't read it.
-#[derive(Clone, Copy)]
-pub enum Loaded {
-    Whole(usize),
-    // There is more than the buffer holds.
-    Longer(usize),
-    Missing,
-    Failed,
-}
+// The most bytes that a scheme, a matrix or a list of requests has.
+pub const LONGEST: usize = 65536;
 
-// Reads until the buffer is full or the file has ended, and gives how many bytes it put there.
-fn fill(file: &mut File, buf: &mut [u8]) -> Result<usize>
-    ensures { IfOk result (λ n. n ≤ length buf.new) }
-{
-    let mut done = 0;
-    while done < buf.len() {
-        let n = file.read(&mut buf[done..])?;
-        if n == 0 {
-            break;
-        }
-        done += n;
-    }
-    Ok(done)
-}
-
-// What stands in an open file, from where it was left. A read behind the last byte tells whether there is more.
-fn load(file: &mut File, buf: &mut [u8]) -> Result<Loaded> {
-    let n = fill(file, buf)?;
-    let mut one = [0u8; 1];
-    let more = file.read(&mut one)?;
-    if more == 0 {
-        Ok(Loaded::Whole(n))
-    } else {
-        Ok(Loaded::Longer(n))
-    }
-}
-
-// Tells nobody of a failure.
-pub(crate) fn look(rt: &HostRuntime, path: &str, buf: &mut [u8]) -> Result<Loaded> {
-    match File::open(rt, path) {
-        Ok(mut file) => load(&mut file, buf),
-        Err(error) if error.kind() == ErrorKind::NotFound => Ok(Loaded::Missing),
-        Err(error) => Err(error),
-    }
-}
-
-// Why a file couldn't be read is told on standard error.
-pub fn read_file(rt: &HostRuntime, path: &[u8], buf: &mut [u8]) -> Loaded {
-    let Some(name) = text_of(rt, path) else {
-        return Loaded::Failed;
+// What a file holds; nothing, where there is no such file. Of a longer one than `LONGEST` a byte more, which shows that it is longer: a device may have no end.
+pub(crate) fn read(rt: &HostRuntime, path: &str) -> io::Result<Option<Vec<u8>>> {
+    let file = match File::open(rt, path) {
+        Ok(file) => file,
+        Err(error) if error.kind() == ErrorKind::NotFound => return Ok(None),
+        Err(error) => return Err(error),
     };
-    match look(rt, name, buf) {
-        Ok(loaded) => loaded,
-        Err(error) => {
-            tell_failure(rt, path, error);
-            Loaded::Failed
-        }
-    }
+    let mut bytes = Vec::new(rt.alloc());
+    file.take(LONGEST as u64 + 1).read_to_end(&mut bytes)?;
+    Ok(Some(bytes))
+}
+
+// The same; why a file couldn't be read is told on standard error.
+pub fn read_file(rt: &HostRuntime, path: &str) -> Result<Option<Vec<u8>>, Told> {
+    read(rt, path).map_err(|error| tell_error(rt, path.as_bytes(), error))
 }

@@ -1,10 +1,16 @@
 // What is told on standard error. Where that can't be written either there is nobody left to tell, so a failure there is passed over.
+use std::fmt::Display;
 use std::io::{Error, Print};
 
-pub(crate) fn tell(rt: &HostRuntime, name: &[u8], words: &[u8]) {
-    let to = rt.stderr();
-    let _ = to.write_all(name);
-    let _ = to.write_all(words);
+// Something failed, and the reason was told: nothing is left to say of it.
+#[derive(Clone, Copy, Debug, PartialEq, Eq)]
+pub struct Told;
+
+// Why nothing comes of a name, which may have any bytes.
+pub fn tell<D: Display + Drop>(rt: &HostRuntime, name: &[u8], reason: D) -> Told {
+    let _ = rt.stderr().write_all(name);
+    let _ = eprintln!(rt; ": {reason}");
+    Told
 }
 
 // The system's words alone: an error shows its number behind them.
@@ -16,10 +22,9 @@ fn words_of(shown: &str) -> &str {
 }
 
 // What failed, as the caller names it, and the system's reason.
-pub fn tell_failure(rt: &HostRuntime, what: &[u8], error: Error) {
-    tell(rt, what, b": ");
+pub fn tell_error(rt: &HostRuntime, name: &[u8], error: Error) -> Told {
     match format!(in rt.alloc(); "{error}") {
-        Ok(shown) => tell(rt, words_of(shown.as_str()).as_bytes(), b"\n"),
-        Err(_) => tell(rt, b"out of memory", b"\n"),
+        Ok(shown) => tell(rt, name, words_of(shown.as_str())),
+        Err(_) => tell(rt, name, "out of memory"),
     }
 }

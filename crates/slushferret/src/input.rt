@@ -1,41 +1,45 @@
-// An input file, by its word.
-use crate::said::tell_of;
-use crate::words::{room, word_at};
-use files::Loaded;
+// An input file.
+use crate::failure::Refusal;
+use files::{LONGEST, Told, read_file, tell, text_of};
+use records::Reading;
 
-#[derive(Clone, Copy)]
-pub(crate) enum Input {
-    Bytes(usize),
-    // It can't be read or is too long, which was told: the tool ends, since it never works on a part.
-    Unusable,
+// A file's name as it was given, and its bytes.
+#[derive(Drop)]
+pub(crate) struct Input<'a> {
+    pub(crate) name: &'a str,
+    pub(crate) bytes: Vec<u8>,
 }
 
-// Room for the largest file that a tool takes.
-pub(crate) fn large_buffer() -> [u8; 65536] {
-    [0; 65536]
-}
-
-fn load_file(rt: &HostRuntime, path: &[u8], buf: &mut [u8]) -> Input {
-    match files::read_file(rt, path, buf) {
-        Loaded::Whole(n) => Input::Bytes(n),
-        Loaded::Longer(_) => {
-            tell_of(rt, path, b": longer than 65536 bytes\n");
-            Input::Unusable
+impl<'a> Input<'a> {
+    // A missing file counts as empty, which is told. One that can't be read or is too long ends the tool, since it never works on a part.
+    pub(crate) fn load(rt: &HostRuntime, word: &'a [u8]) -> Result<Input<'a>, Told> {
+        let name = text_of(rt, word)?;
+        let Some(bytes) = read_file(rt, name)? else {
+            tell(rt, word, "there is no such file, so it counts as empty");
+            return Ok(Input {
+                name,
+                bytes: Vec::new(rt.alloc()),
+            });
+        };
+        if LONGEST < bytes.len() {
+            return Err(tell(rt, word, "longer than 65536 bytes"));
         }
-        Loaded::Missing => {
-            tell_of(
-                rt,
-                path,
-                b": there is no such file, so it counts as empty\n",
-            );
-            Input::Bytes(0)
-        }
-        Loaded::Failed => Input::Unusable,
+        Ok(Input { name, bytes })
     }
-}
 
-pub(crate) fn load(rt: &HostRuntime, word: usize, buf: &mut [u8]) -> Input {
-    let mut name = room();
-    let n = word_at(rt, word, &mut name);
-    load_file(rt, records::body(&name, 0, n), buf)
+    pub(crate) fn refused(&self, number: u8, position: usize) -> Refusal<'a> {
+        Refusal {
+            name: self.name,
+            number,
+            position,
+        }
+    }
+
+    // What a reader answers to these bytes.
+    pub(crate) fn accepted(&self, answer: Reading) -> Result<(), Refusal<'a>> {
+        match answer {
+            Reading::Done { next: _ } => Ok(()),
+            Reading::Refused { number, at } => Err(self.refused(number, at)),
+        }
+    }
 }

@@ -1,55 +1,51 @@
 // The tools `hold` and `release`: the matrix with the mark of a thing set or cleared.
-use crate::input::{Input, large_buffer, load};
-use crate::output::{refuse, write_one};
-use crate::said::Status;
-use crate::words::{ID, MATRIX, SCHEME, id_word};
+use crate::failure::Failure;
+use crate::output::write_one;
+use crate::tables::Tables;
+use crate::wrong_use::WrongUse;
+use lines::IdWord;
 
-const OUT: usize = 5;
+// The words that both are given.
+#[derive(Clone, Copy, Debug, PartialEq, Eq)]
+pub(crate) struct Marked<'a> {
+    pub(crate) scheme: &'a [u8],
+    pub(crate) matrix: &'a [u8],
+    pub(crate) id: &'a [u8],
+    pub(crate) out: &'a [u8],
+}
 
-fn call(
-    holds: bool,
-    scheme: &[u8],
-    matrix: &[u8],
-    id: u16,
-    after: &mut [u8],
-    report: &mut [usize],
-) -> u8 {
-    if holds {
+fn id_of(word: &[u8]) -> Result<u16, WrongUse<'_>> {
+    match lines::id_in(word) {
+        IdWord::Id(id) => Ok(id),
+        IdWord::Other => Err(WrongUse::NotAnId(word)),
+    }
+}
+
+// By a function of the robots' library, which gets the id between the files and the room for its output.
+fn mark<'a, F: FnOnce(&[u8], &[u8], u16, &mut [u8], &mut [usize]) -> u8>(
+    rt: &HostRuntime,
+    words: Marked<'a>,
+    call: F,
+) -> Result<(), Failure<'a>>
+    requires { F.IsAlwaysCallable call }
+{
+    let id = id_of(words.id)?;
+    let tables = Tables::load(rt, words.scheme, words.matrix)?;
+    let (after, _) = tables.made_by(rt, |scheme, matrix, after, report| {
+        call(scheme, matrix, id, after, report)
+    })?;
+    write_one(rt, words.out, &after)?;
+    Ok(())
+}
+
+pub(crate) fn hold<'a>(rt: &HostRuntime, words: Marked<'a>) -> Result<(), Failure<'a>> {
+    mark(rt, words, |scheme, matrix, id, after, report| {
         robot::slushferret_hold(scheme, matrix, id, after, report)
-    } else {
+    })
+}
+
+pub(crate) fn release<'a>(rt: &HostRuntime, words: Marked<'a>) -> Result<(), Failure<'a>> {
+    mark(rt, words, |scheme, matrix, id, after, report| {
         robot::slushferret_release(scheme, matrix, id, after, report)
-    }
-}
-
-fn mark(rt: &HostRuntime, holds: bool, scheme: &[u8], matrix: &[u8], id: u16) -> Status {
-    let mut after = large_buffer();
-    let mut report = [0usize; 5];
-    let x = call(holds, scheme, matrix, id, &mut after, &mut report);
-    if x != 0 {
-        return refuse(rt, &report, x);
-    }
-    write_one(rt, OUT, records::body(&after, 0, report[3]))
-}
-
-pub(crate) fn hold(rt: &HostRuntime, holds: bool) -> Status {
-    let Some(id) = id_word(rt, ID) else {
-        return Status::WrongUse;
-    };
-    let mut scheme = large_buffer();
-    let mut matrix = large_buffer();
-    let loaded = load(rt, SCHEME, &mut scheme);
-    let Input::Bytes(a) = loaded else {
-        return Status::Failed;
-    };
-    let loaded = load(rt, MATRIX, &mut matrix);
-    let Input::Bytes(b) = loaded else {
-        return Status::Failed;
-    };
-    mark(
-        rt,
-        holds,
-        records::body(&scheme, 0, a),
-        records::body(&matrix, 0, b),
-        id,
-    )
+    })
 }
