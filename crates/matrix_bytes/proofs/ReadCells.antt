@@ -15,7 +15,7 @@ use Rattle.laws.proofs.Differ.{constructors_differ}
 use Rattle.records.specs.Reading.{Read, got, fault, Reader, bind, ◌>>=◌, done}
 use Rattle.records.specs.Front.{Refusal, in_record}
 use Rattle.records.specs.Results.{refused}
-use Rattle.records.specs.declared.Refused.{Refused}
+use Rattle.records.specs.declared.Refused as result
 use Rattle.records.proofs.Loop.{prepend, prepend_none, prepend_one}
 use Rattle.matrix_records.specs.Content.{CellRecord, listed}
 use Rattle.matrix_records.specs.Read.{cell, above, start}
@@ -23,8 +23,10 @@ use Rattle.matrix_records.specs.Answers.{kind_at, last_of, place_in, found_cell,
 use Rattle.matrix_records.specs.declared.answers.FoundCell.{FoundCell}
 use Rattle.matrix_records.proofs.ReadBack.{cell_opened, item_back, item_stopped, cell_after, cell_place_lem}
 use Rattle.matrix_bytes.specs.Read.{to_end}
+use Rattle.records.specs.Outcome.Reading.{Done, Refused}
+use Rattle.matrix_bytes.specs.MatrixAnswer.{MatrixAnswer}
 use Rattle.matrix_bytes.specs.Answers.{matrix_result}
-use Rattle.matrix_bytes.specs.Inner.Parts.{cells_from, stored_in, CellsRead, finished}
+use Rattle.matrix_bytes.specs.Inner.Parts.{cells_from, stored_in, CellsRead}
 
 -- ---- the cells to the end of the input: what holds at position p, behind a cell at (over, by), with the cells that are stored by then
 stored_on : (n : ℕ) (ids cells : List ℕ) (cs : List CellRecord) (c : CellRecord) →
@@ -116,7 +118,7 @@ module _ (s : List ℕ) (h : Head) (th : Things) (n at : ℕ) (cells₀ : List �
               SoFar (set cells f.0.place f.0.rights) f.0.row f.0.column f.1
           go (c, is, same) = rw same (stepped c f.1 is)
 
-      pub far_stop : T (accepted_head h) → {r : Refused} → Err r ≡ read_cell s p 32 h th n (last_of over by) → CellsRead n th.ids cells₀ (Err r) cells cells_read
+      pub far_stop : T (accepted_head h) → {r : result.Refused} → Err r ≡ read_cell s p 32 h th n (last_of over by) → CellsRead n th.ids cells₀ (Err r) cells cells_read
       unfolding CellsRead
       far_stop ok {r} e = go (item_stopped (found_cell n th.ids (kind_at s p)) (one_cell (last_of over by) p) (e ∙ cell_opened s p 32 h ok th n (last_of over by)))
         where
@@ -128,15 +130,22 @@ module _ (s : List ℕ) (h : Head) (th : Things) (n at : ℕ) (cells₀ : List �
     far_all l = rw (v.read, none_more v.fuel (last_of over by) p (omega (arith, v.inside)), append-nil) (refl, v.stored)
 
 -- ---- both put in the lent ones, or not
+abbrev pub refused_at : Things → ℕ → ℕ → MatrixAnswer
+refused_at things k at = record { answer = Refused k at; things = things }
+
+unfoldable pub finished : ℕ → Things → Things → List ℕ → Read ℕ Refusal (List CellRecord) → MatrixAnswer × List ℕ
+finished n th things cells (got cs next) = (record { answer = Done next; things = th }, stored_in n th.ids (replicate 2304 0) cs)
+finished n th things cells (fault f) = (refused_at things f.number f.at, cells)
+
 module _ (n : ℕ) (th things : Things) (cells new : List ℕ) where
-  pub finish_refused : {r : Refused} (read : Read ℕ Refusal (List CellRecord)) → CellsRead n th.ids (replicate 2304 0) (Err r) new read →
-      ◌≡◌ {A = Result ℕ Refused × Things × List ℕ} (Err r, things, cells) (matrix_result (finished n th things cells read))
+  pub finish_refused : {r : result.Refused} (read : Read ℕ Refusal (List CellRecord)) → CellsRead n th.ids (replicate 2304 0) (Err r) new read →
+      ◌≡◌ {A = Result ℕ result.Refused × Things × List ℕ} (Err r, things, cells) (matrix_result (finished n th things cells read))
   unfolding CellsRead finished
   finish_refused (got cs j) c = let f = c.0 in constructors_differ (cc)
   finish_refused (fault f) c = rw c
 
   pub finish_done : {next : ℕ} (read : Read ℕ Refusal (List CellRecord)) → CellsRead n th.ids (replicate 2304 0) (Ok next) new read →
-      ◌≡◌ {A = Result ℕ Refused × Things × List ℕ} (Ok next, th, new) (matrix_result (finished n th things cells read))
+      ◌≡◌ {A = Result ℕ result.Refused × Things × List ℕ} (Ok next, th, new) (matrix_result (finished n th things cells read))
   unfolding CellsRead finished
   finish_done (got cs j) c = rw (c.0, c.1)
   finish_done (fault f) c = constructors_differ (cc)

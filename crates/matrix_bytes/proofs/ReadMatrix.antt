@@ -29,7 +29,7 @@ use Rattle.matrix_records.proofs.ReadBack.{head_opened, item_stopped}
 use Rattle.matrix_bytes.specs.Content.{things_from, store, store_all, matrix_from}
 use Rattle.matrix_bytes.specs.Read.{to_end, rest, matrix}
 use Rattle.matrix_bytes.specs.Answers.{as_matrix, matrix_result, read_matrix, read_matrix_by_head, read_rest}
-use Rattle.matrix_bytes.specs.Inner.Parts.{refused_at, cells_from, stored_in, finished}
+use Rattle.matrix_bytes.specs.Inner.Parts.{cells_from, stored_in}
 use Rattle.matrix_bytes.specs.MatrixAnswer.{MatrixAnswer}
 use Rattle.matrix_bytes.proofs.Seating.{from_room, from_listed}
 use Rattle.matrix_bytes.proofs.Spots.{EachCell}
@@ -37,6 +37,7 @@ use Rattle.matrix_bytes.proofs.Spots.EachCell.{no as no_cell, also}
 use Rattle.matrix_bytes.proofs.Trips.{cells_back}
 use Rattle.matrix_bytes.proofs.Rising.{taken_rising}
 use Rattle.matrix_bytes.proofs.RoundTrips.{head_passes}
+use Rattle.matrix_bytes.proofs.ReadCells.{refused_at, finished}
 use Rattle.matrix_bytes.proofs.ReadThings.{head_read, things_read, things_end}
 
 -- where a reading ended, and what the lent things and cells then hold

@@ -2,6 +2,7 @@
 // one rechecks only that one.
 #![tactic(auto)]
 
+mod head;
 mod read;
 
 pub use read::{read_matrix, read_matrix_by_head, read_rest};

@@ -1,6 +1,5 @@
 // Reading a matrix: its head, its things one by one, its cells to the end. Nothing that was lent is stored to before all of it has been read.
-ghost use Rattle.std.specs.Prelude.{◌≡◌, List, ℕ, Result, ◌≤◌, ◌<◌, T, length};
-ghost use Rattle.model.specs.Accepted.{accepted_head};
+ghost use Rattle.std.specs.Prelude.{◌≡◌, List, ℕ, Result, ◌≤◌, length};
 ghost use Rattle.model.specs.declared.Things.{Things};
 ghost use Rattle.records.specs.Reading.{steps};
 ghost use Rattle.records.specs.Front.{in_record};
@@ -11,8 +10,9 @@ ghost use Rattle.matrix_records.specs.Read.{thing};
 ghost use Rattle.matrix_bytes.specs.Content.{things_from};
 ghost use Rattle.matrix_bytes.specs.Read.{rest};
 ghost use Rattle.matrix_bytes.specs.Answers.{as_matrix, matrix_result, read_rest, read_matrix, read_matrix_by_head};
-ghost use Rattle.matrix_bytes.specs.Inner.Parts.{cells_from, CellsRead, finished};
+ghost use Rattle.matrix_bytes.specs.Inner.Parts.{cells_from, CellsRead};
 
+use crate::head::AcceptedHead;
 use accepted::{head_accepted, scheme_accepted};
 use faults::Fault;
 use model::{Head, Scheme, Things};
@@ -28,19 +28,18 @@ const NOT_ACCEPTED: Refused = Refused {
 fn read_things(
     s: &[u8],
     at: usize,
-    h: Head,
+    h: AcceptedHead,
     highest: u16,
     count: u8,
 ) -> Result<(Things, usize), Refused>
-    requires { T (accepted_head h) }
-    ensures { result ≡ item_of (named (things_from highest) (steps (λ last. in_record s.now 272 (thing h highest last)) (λ last t. t.id) count 0 at)) }
+    ensures { result ≡ item_of (named (things_from highest) (steps (λ last. in_record s.now 272 (thing h.head highest last)) (λ last t. t.id) count 0 at)) }
 {
     let mut th = things::no_things();
     th.highest = highest;
     let mut last: u16 = 0;
     let mut p = at;
     for j in 0..count as usize {
-        let (found, next) = matrix_records::read_thing(s, p, Kinds(272), h, highest, last)?;
+        let (found, next) = matrix_records::read_thing(s, p, Kinds(272), h.head, highest, last)?;
         th = things::put_thing(th, j, found.id, found.of, found.kind == 8);
         last = found.id;
         p = next;
@@ -52,19 +51,19 @@ fn read_things(
 fn read_cells(
     s: &[u8],
     at: usize,
-    h: Head,
+    h: AcceptedHead,
     th: Things,
     n: usize,
-    cells: &mut [u64],
+    cells: &mut [u64; Things::CELLS],
 ) -> Result<usize, Refused>
-    requires { T (accepted_head h) × (at ≤ length s.now) × (length cells.old ≡ 2304) }
-    ensures { CellsRead n th.ids cells.old result cells.new (cells_from s.now h th n at) }
+    requires { at ≤ length s.now }
+    ensures { CellsRead n th.ids cells.old result cells.new (cells_from s.now h.head th n at) }
 {
     let mut over: u16 = 0;
     let mut by: u16 = 0;
     let mut p = at;
     while p < s.len() {
-        let (found, next) = matrix_records::read_cell(s, p, Kinds(32), h, th, n, over, by)?;
+        let (found, next) = matrix_records::read_cell(s, p, Kinds(32), h.head, th, n, over, by)?;
         cells[found.place] = found.rights;
         over = found.row;
         by = found.column;
@@ -73,41 +72,25 @@ fn read_cells(
     Ok(p)
 }
 
-// The cells behind the things, and both into the lent ones.
-fn finish(
-    s: &[u8],
-    at: usize,
-    h: Head,
-    th: Things,
-    n: usize,
-    things: &mut Things,
-    cells: &mut [u64],
-) -> Result<usize, Refused>
-    requires { T (accepted_head h) × (at ≤ length s.now) × (length cells.old ≡ 2304) }
-    ensures { ◌≡◌ {A = Result ℕ Refused × Things × List ℕ} (result, things.new, cells.new) (matrix_result (finished n th things.old cells.old (cells_from s.now h th n at))) }
-{
-    let mut new = [0u64; Things::CELLS];
-    let next = read_cells(s, at, h, th, n, &mut new)?;
-    cells.copy_from_slice(&new);
-    *things = th;
-    Ok(next)
-}
-
 // What stands behind a head that states so many things and this highest id: the things, and the cells behind them, into the lent ones.
 fn rest_of(
     s: &[u8],
     at: usize,
-    h: Head,
+    h: AcceptedHead,
     highest: u16,
     count: u8,
     things: &mut Things,
     cells: &mut [u64],
 ) -> Result<usize, Refused>
-    requires { T (accepted_head h) × (count ≤ 48) × (at ≤ length s.now) × (length cells.old ≡ 2304) }
-    ensures { ◌≡◌ {A = Result ℕ Refused × Things × List ℕ} (result, things.new, cells.new) (matrix_result (as_matrix things.old cells.old (rest h highest count s.now at))) }
+    requires { (count ≤ 48) × (at ≤ length s.now) × (length cells.old ≡ 2304) }
+    ensures { ◌≡◌ {A = Result ℕ Refused × Things × List ℕ} (result, things.new, cells.new) (matrix_result (as_matrix things.old cells.old (rest h.head highest count s.now at))) }
 {
-    let (th, next) = read_things(s, at, h, highest, count)?;
-    finish(s, next, h, th, count as usize, things, cells)
+    let (th, start) = read_things(s, at, h, highest, count)?;
+    let mut new = [0u64; Things::CELLS];
+    let next = read_cells(s, start, h, th, count as usize, &mut new)?;
+    *things = th;
+    cells.copy_from_slice(&new);
+    Ok(next)
 }
 
 // The same from any position on, for callers that read a head of their own: 27 for what no reading of a head gives.
@@ -129,7 +112,15 @@ pub fn read_rest(
     {
         return Err(NOT_ACCEPTED);
     }
-    rest_of(s, at, h, highest, count, things, cells)
+    rest_of(
+        s,
+        at,
+        AcceptedHead { head: h },
+        highest,
+        count,
+        things,
+        cells,
+    )
 }
 
 // The whole of an input as a matrix of a scheme; where it is refused, the things and the cells stay.
@@ -160,5 +151,13 @@ pub fn read_matrix_by_head(
         return Err(NOT_ACCEPTED);
     }
     let (head, next) = matrix_records::read_head(s, 0, Kinds(128), h)?;
-    rest_of(s, next, h, head.highest, head.count, things, cells)
+    rest_of(
+        s,
+        next,
+        AcceptedHead { head: h },
+        head.highest,
+        head.count,
+        things,
+        cells,
+    )
 }

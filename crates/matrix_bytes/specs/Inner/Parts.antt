@@ -1,21 +1,16 @@
 -- What the functions give that read the cells of a matrix: each in its place.
 -- Assumes nothing.
-use Rattle.std.specs.Prelude.{ℕ, List, [], ◌∷◌, Result, Ok, Err, ◌≡◌, length, set, replicate}
+use Rattle.std.specs.Prelude.{ℕ, List, [], ◌∷◌, Result, Ok, Err, ◌≡◌, length, set}
 use Rattle.model.specs.declared.Head.{Head}
 use Rattle.model.specs.declared.Things.{Things}
 use Rattle.records.specs.Reading.{Read, got, fault}
 use Rattle.records.specs.Front.{Refusal, in_record}
-use Rattle.records.specs.Outcome.Reading.{Done, Refused}
 use Rattle.records.specs.Results.{refused}
 use Rattle.records.specs.declared.Refused as result
 use Rattle.matrix_records.specs.Content.{CellRecord, listed}
 use Rattle.matrix_records.specs.Read.{cell, start}
 use Rattle.matrix_records.specs.Answers.{place_in}
 use Rattle.matrix_bytes.specs.Read.{to_end}
-use Rattle.matrix_bytes.specs.MatrixAnswer.{MatrixAnswer}
-
-abbrev pub refused_at : Things → ℕ → ℕ → MatrixAnswer
-refused_at things k at = record { answer = Refused k at; things = things }
 
 -- the cells from a position to the end of the input, of the first n things
 abbrev pub cells_from : List ℕ → Head → Things → ℕ → ℕ → Read ℕ Refusal (List CellRecord)
@@ -30,7 +25,3 @@ stored_in n ids cells (c ∷ cs) = stored_in n ids (set cells (place_in n ids c)
 unfoldable pub CellsRead : ℕ → List ℕ → List ℕ → Result ℕ result.Refused → List ℕ → Read ℕ Refusal (List CellRecord) → Type 0
 CellsRead n ids cells read new (got cs next) = (read ≡ Ok next) × (new ≡ stored_in n ids cells cs)
 CellsRead n ids cells read new (fault f) = read ≡ Err (refused f.number f.at)
-
-unfoldable pub finished : ℕ → Things → Things → List ℕ → Read ℕ Refusal (List CellRecord) → MatrixAnswer × List ℕ
-finished n th things cells (got cs next) = (record { answer = Done next; things = th }, stored_in n th.ids (replicate 2304 0) cs)
-finished n th things cells (fault f) = (refused_at things f.number f.at, cells)

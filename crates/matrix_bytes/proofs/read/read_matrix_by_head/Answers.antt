@@ -29,7 +29,7 @@ pub rest_of-requires : goal.rest_of-requires
 rest_of-requires c =
     let ok = from_true (sym c.if-not-head_accepted.ensures) in
     let (few, near) = head_few c.args.s.now c.args.h (head_sized _ ok) (λ i. (c.type_inv.s i).fits) _ _ (head_is _ _ ok c.in_ok-head.ensures) in
-    (ok, few, near, c.if-cells-ne-CELLS.false)
+    (few, near, c.if-cells-ne-CELLS.false)
 
 pub returns : goal.returns
 returns c =

@@ -9,5 +9,5 @@ use Rattle.matrix_bytes.proofs.read.read_things.Given as goal
 
 abbrev pub invariant-loop-j : goal.invariant-loop-j
 invariant-loop-j l =
-    (v : Looped (λ last'. in_record l.s 272 (thing l.h l.highest last')) (λ last' t. t.id) l.count 0 l.at l.j l.last l.p) ×
+    (v : Looped (λ last'. in_record l.s 272 (thing l.h.head l.highest last')) (λ last' t. t.id) l.count 0 l.at l.j l.last l.p) ×
     (l.th ≡ things_from l.highest v.items)
