@@ -29,8 +29,9 @@ use Rattle.matrix_bytes.proofs.RoundTrips.{head_passes}
 use Rattle.moving.specs.Old.{highest_listed, by_listed, old_content, old_matrix}
 use Rattle.moving.specs.Moves.{new_image, old_image, forward, back}
 use Rattle.moving.specs.Answers.{by_writing, moved_into, forward_into, back_into}
-use Rattle.moving.specs.Inner.Parts.{at_start, things_of}
+use Rattle.moving.specs.Inner.Parts.{things_of}
 use Rattle.moving.proofs.OldTrips.{old_long}
+use Rattle.moving.proofs.OldReads.{by_start}
 
 -- what a function gives, with what the lent buffer then holds
 abbrev Gives : Type 0
@@ -47,9 +48,9 @@ was_read (fault f) e = constructors_differ (cc)
 
 -- ---- and from what was written to what is answered
 as_written : (w : Writing × List ℕ) {v : Result ℕ Fault} {left : List ℕ} → ◌≡◌ {A = Result ℕ Fault × List ℕ} (v, left) (written w) →
-    ◌≡◌ {A = Gives} (at_start v, left) (moved_into (by_writing w))
-as_written (writing.Done n, l) e = ap (λ (p : Result ℕ Fault × List ℕ). (at_start p.0, p.1)) e
-as_written (writing.Refused k, l) e = ap (λ (p : Result ℕ Fault × List ℕ). (at_start p.0, p.1)) e
+    ◌≡◌ {A = Gives} (by_start v, left) (moved_into (by_writing w))
+as_written (writing.Done n, l) e = ap (λ (p : Result ℕ Fault × List ℕ). (by_start p.0, p.1)) e
+as_written (writing.Refused k, l) e = ap (λ (p : Result ℕ Fault × List ℕ). (by_start p.0, p.1)) e
 
 -- ---- forward
 module _ (old : List ℕ) (s : Scheme) (out : List ℕ) where
@@ -73,7 +74,7 @@ module _ (old : List ℕ) (s : Scheme) (out : List ℕ) where
       forward_long g = let (m, n, is, t) = was_read (old_content s.head old 0) e in old_long s.head old m n (head_passes s (from_true ok)) g is
 
       pub forward_done : {highest : ℕ} → highest ≡ highest_listed th → {v : Result ℕ Fault} {left : List ℕ} →
-          ◌≡◌ {A = Result ℕ Fault × List ℕ} (v, left) (written (write_bytes out 0 (new_image old highest))) → ◌≡◌ {A = Gives} (at_start v, left) forwards
+          ◌≡◌ {A = Result ℕ Fault × List ℕ} (v, left) (written (write_bytes out 0 (new_image old highest))) → ◌≡◌ {A = Gives} (by_start v, left) forwards
       unfolding forward_into forward old_matrix by_listed
       forward_done {highest} eh w =
           let (m, n, is, t) = was_read (old_content s.head old 0) e in
@@ -108,7 +109,7 @@ module _ (new : List ℕ) (s : Scheme) (out : List ℕ) where
       back_lost d = let (m, n, is, t) = was_read (matrix s.head new 0) e in rw (ok, is, ← t, ← eh, ne_eqb th.highest highest d)
 
       pub back_done : th.highest ≡ highest → {v : Result ℕ Fault} {left : List ℕ} →
-          ◌≡◌ {A = Result ℕ Fault × List ℕ} (v, left) (written (write_bytes out 0 (old_image new))) → ◌≡◌ {A = Gives} (at_start v, left) backs
+          ◌≡◌ {A = Result ℕ Fault × List ℕ} (v, left) (written (write_bytes out 0 (old_image new))) → ◌≡◌ {A = Gives} (by_start v, left) backs
       unfolding back_into back
       back_done same w =
           let (m, n, is, t) = was_read (matrix s.head new 0) e in

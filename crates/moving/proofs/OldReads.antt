@@ -7,7 +7,9 @@ use mathlib.Core.List.{List, [], ◌∷◌}
 use mathlib.Core.Path.{◌≡◌, refl, sym, ap, ◌∙◌}
 use lib.Dec.{T, eqb, ltb}
 use lib.ListN.{length, drop, replicate}
-use Rattle.std.specs.Prelude.{Result, Ok, Err}
+use Rattle.std.specs.Prelude.{Result, Ok, Err, MatchResult}
+use Rattle.std.specs.Result.{IsErrAnd}
+use Rattle.std.proofs.lemmas.Result.{err_from_is_err_and}
 use Rattle.std.specs.List.{fold, reduce}
 use Rattle.std.specs.Option.{unwrap_or}
 use Rattle.faults.specs.Numbers.{fault_of}
@@ -37,6 +39,16 @@ use Rattle.laws.proofs.Differ.{constructors_differ}
 use Rattle.moving.specs.Old.{old_head, old_content, highest_of}
 use Rattle.moving.specs.Inner.Parts.{at_start, things_of}
 use Rattle.moving.proofs.OldTrips.{old_head_record}
+
+-- what `map_err` gives by that
+module _ {A : Type 0} where
+  abbrev pub by_start : Result A Fault → Result A Refused
+  by_start (Ok v) = Ok v
+  by_start (Err f) = Err (at_start f)
+
+  pub started : (m : Result A Fault) {r : Result A Refused} → MatchResult m (λ v. r ≡ Ok v) (λ f. IsErrAnd r (λ e. e ≡ at_start f)) → r ≡ by_start m
+  started (Ok v) h = h
+  started (Err f) {r} h = let (e, is, same) = err_from_is_err_and r h in is ∙ ap Err same
 
 -- ---- the head's body
 pub old_lines : (b : List ℕ) (h : Head) → value_of (whole (old_head h) b) ≡
@@ -89,19 +101,19 @@ module _ (h : Head) (s : List ℕ) where
     body_read = rw eb (in_record_lem s 0 8 (λ kind. old_head h) r.kind r.start r.len (record_back (record_at s 0 8) (sym found)))
 
     -- its body is at fault
-    pub old_no_head : {f : Refused} → Err f ≡ at_start m → Err f ≡ its_things
+    pub old_no_head : {f : Refused} → Err f ≡ by_start m → Err f ≡ its_things
     unfolding old_content
-    old_no_head {f} e = rw body_read (go (whole (old_head h) b) (e ∙ ap at_start em))
+    old_no_head {f} e = rw body_read (go (whole (old_head h) b) (e ∙ ap by_start em))
       where
-        go : (w : Read (List ℕ) ℕ ℕ) → Err f ≡ at_start (value_of w) → Err f ≡ things_of (bind (on_body 0 behind w) (λ count. rest h 65535 count s))
+        go : (w : Read (List ℕ) ℕ ℕ) → Err f ≡ by_start (value_of w) → Err f ≡ things_of (bind (on_body 0 behind w) (λ count. rest h 65535 count s))
         go (got v left) g = constructors_differ (cc)
         go (fault k) g = let same : f ≡ refused k 0 = cc in ap Err same
 
-    module _ {count : ℕ} (e : Ok count ≡ at_start m) where
+    module _ {count : ℕ} (e : Ok count ≡ by_start m) where
       head_read : in_record s 8 (λ kind. old_head h) 0 ≡ got count behind
-      head_read = body_read ∙ go (whole (old_head h) b) (e ∙ ap at_start em)
+      head_read = body_read ∙ go (whole (old_head h) b) (e ∙ ap by_start em)
         where
-          go : (w : Read (List ℕ) ℕ ℕ) → Ok count ≡ at_start (value_of w) → on_body 0 behind w ≡ got count behind
+          go : (w : Read (List ℕ) ℕ ℕ) → Ok count ≡ by_start (value_of w) → on_body 0 behind w ≡ got count behind
           go (got v left) g = let same : v ≡ count = cc in rw same
           go (fault k) g = constructors_differ (cc)
 

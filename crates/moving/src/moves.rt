@@ -15,10 +15,10 @@ pub fn forward(old: &[u8], s: Scheme, out: &mut [u8]) -> Result<usize, Refused>
     ensures { ◌≡◌ {A = Result ℕ Refused × List ℕ} (result, out.new) (moved_into (forward_into old.now s out.old)) }
 {
     if !scheme_accepted(s) {
-        return at_start(Err(Fault::NotAccepted));
+        return Err(at_start(Fault::NotAccepted));
     }
     let th = read_old(old, s.head)?;
-    at_start(write_new(out, old, highest_listed(th)))
+    write_new(out, old, highest_listed(th)).map_err(at_start)
 }
 
 // From kind 7 to kind 3, unless the highest would be lost: 27, the reading's own numbers, 23, then 9.
@@ -26,13 +26,13 @@ pub fn back(new: &[u8], s: Scheme, out: &mut [u8]) -> Result<usize, Refused>
     ensures { ◌≡◌ {A = Result ℕ Refused × List ℕ} (result, out.new) (moved_into (back_into new.now s out.old)) }
 {
     if !scheme_accepted(s) {
-        return at_start(Err(Fault::NotAccepted));
+        return Err(at_start(Fault::NotAccepted));
     }
     let mut th = things::no_things();
     let mut cells = [0u64; Things::CELLS];
     matrix_bytes::read_matrix_by_head(new, s.head, &mut th, &mut cells)?;
     if th.highest != highest_listed(th) {
-        return at_start(Err(Fault::HighestLost));
+        return Err(at_start(Fault::HighestLost));
     }
-    at_start(write_old(out, new))
+    write_old(out, new).map_err(at_start)
 }

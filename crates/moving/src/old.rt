@@ -12,10 +12,10 @@ use records::{Kinds, Record, Refused};
 use rights::Right;
 
 // A fault of the head's body, or of the whole image, as a refusal: both begin at the image's start.
-pub(crate) fn at_start<T>(answer: Result<T, Fault>) -> Result<T, Refused>
-    ensures { result ≡ at_start answer }
+pub(crate) fn at_start(fault: Fault) -> Refused
+    ensures { result ≡ at_start fault }
 {
-    answer.map_err(|fault| Refused { fault, at: 0 })
+    Refused { fault, at: 0 }
 }
 
 // How many things the head's body states.
@@ -44,7 +44,7 @@ pub(crate) fn read_old(image: &[u8], h: Head) -> Result<Things, Refused>
         start,
         len,
     } = records::record_at(image, 0, Kinds(8))?;
-    let count = at_start(count_in(records::body(image, start, len), h))?;
+    let count = count_in(records::body(image, start, len), h).map_err(at_start)?;
     let mut th = things::no_things();
     let mut cells = [0u64; Things::CELLS];
     matrix_bytes::read_rest(image, start + len, h, u16::MAX, count, &mut th, &mut cells)?;

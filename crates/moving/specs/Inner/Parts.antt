@@ -13,7 +13,5 @@ abbrev pub things_of : Read ℕ Refusal Matrix → Result Things Refused
 things_of (got m next) = Ok m.things
 things_of (fault f) = Err (refused f.number f.at)
 
-module _ {A : Type 0} where
-  abbrev pub at_start : Result A Fault → Result A Refused
-  at_start (Ok v) = Ok v
-  at_start (Err f) = Err (record { fault = f; at = 0 })
+abbrev pub at_start : Fault → Refused
+at_start f = record { fault = f; at = 0 }

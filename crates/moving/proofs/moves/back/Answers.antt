@@ -8,7 +8,7 @@ use Rattle.matrix_bytes.specs.Answers.{matrix_result}
 use Rattle.matrix_bytes.specs.Read.{matrix}
 use Rattle.moving.specs.Inner.Parts.{things_of}
 use Rattle.moving.proofs.MoveLaws.{back_27, back_opened, back_refused, back_lost, back_done}
-use Rattle.moving.proofs.OldReads.{not_kept, kept}
+use Rattle.moving.proofs.OldReads.{started, not_kept, kept}
 use Rattle.moving.proofs.moves.back.Goals as goal
 use Rattle.moving.proofs.moves.back.Goals.{In_ok-read_matrix_by_head}
 
@@ -37,6 +37,6 @@ returns-then-th-highest_listed c =
 
 pub returns : goal.returns
 returns c =
-    rw c.at_start-2.ensures
+    rw (started _ c.map_err.ensures.cases)
     (back_done _ _ _ (sym c.if-not-scheme_accepted.ensures) (were_read (goal.at.returns c).In_ok-read_matrix_by_head) c.highest_listed.ensures
     c.if-th-highest_listed.false c.write_old.ensures)

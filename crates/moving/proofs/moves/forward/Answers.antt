@@ -6,6 +6,7 @@ use Rattle.faults.specs.Numbers.{fault_of}
 use Rattle.laws.proofs.Bools.{from_true}
 use Rattle.matrix_bytes.proofs.RoundTrips.{head_passes}
 use Rattle.moving.proofs.MoveLaws.{forward_27, forward_refused, forward_long, forward_done}
+use Rattle.moving.proofs.OldReads.{started}
 use Rattle.moving.proofs.moves.forward.Goals as goal
 
 pub returns-then-not-scheme_accepted : goal.returns-then-not-scheme_accepted
@@ -24,4 +25,4 @@ pub write_new-requires : goal.write_new-requires
 write_new-requires c = forward_long _ _ c.args.out.now (sym c.if-not-scheme_accepted.ensures) c.in_ok-th.ensures (λ i. (c.type_inv.old i).fits)
 
 pub returns : goal.returns
-returns c = rw c.at_start-2.ensures (forward_done _ _ _ (sym c.if-not-scheme_accepted.ensures) c.in_ok-th.ensures c.highest_listed.ensures c.write_new.ensures)
+returns c = rw (started _ c.map_err.ensures.cases) (forward_done _ _ _ (sym c.if-not-scheme_accepted.ensures) c.in_ok-th.ensures c.highest_listed.ensures c.write_new.ensures)
