@@ -3,7 +3,7 @@
 use Prim.Native.Nat.{ℕ, ◌≤◌}
 use mathlib.Core.Bool.{true, false}
 use mathlib.Core.List.{List}
-use mathlib.Core.Path.{◌≡◌, refl, ap, ◌∙◌}
+use mathlib.Core.Path.{◌≡◌, refl, sym, ap, ◌∙◌}
 use lib.ListN.{length, replicate}
 use borrow.Author.Tests.{eq-eqb, ne_eqb}
 use Rattle.std.specs.Prelude.{Result, Ok, Err}
@@ -57,21 +57,21 @@ module _ (old : List ℕ) (s : Scheme) (out : List ℕ) where
   abbrev forwards : Gives
   forwards = moved_into (forward_into old s out)
 
-  pub forward_27 : accepted_scheme s ≡ false → ◌≡◌ {A = Gives} (Err (refused 27 0), out) forwards
+  pub forward_27 : false ≡ accepted_scheme s → ◌≡◌ {A = Gives} (Err (refused 27 0), out) forwards
   unfolding forward_into
-  forward_27 e = rw e
+  forward_27 e = rw (← e)
 
-  module _ (ok : accepted_scheme s ≡ true) where
+  module _ (ok : true ≡ accepted_scheme s) where
     pub forward_refused : {r : Refused} → Err r ≡ things_of (old_content s.head old 0) → ◌≡◌ {A = Gives} (Err r, out) forwards
     unfolding forward_into forward old_matrix
     forward_refused {r} e = go (not_read (old_content s.head old 0) e)
       where
         go : (f : Refusal) × (old_content s.head old 0 ≡ fault f) × (r ≡ refused f.number f.at) → ◌≡◌ {A = Gives} (Err r, out) forwards
-        go (f, is, same) = rw (ok, is, same)
+        go (f, is, same) = rw (← ok, is, same)
 
     module _ {th : Things} (e : Ok th ≡ things_of (old_content s.head old 0)) where
       pub forward_long : Bytes old → 6 ≤ length old
-      forward_long g = let (m, n, is, t) = was_read (old_content s.head old 0) e in old_long s.head old m n (head_passes s (from_true ok)) g is
+      forward_long g = let (m, n, is, t) = was_read (old_content s.head old 0) e in old_long s.head old m n (head_passes s (from_true (sym ok))) g is
 
       pub forward_done : {highest : ℕ} → highest ≡ highest_listed th → {v : Result ℕ Fault} {left : List ℕ} →
           ◌≡◌ {A = Result ℕ Fault × List ℕ} (v, left) (written (write_bytes out 0 (new_image old highest))) → ◌≡◌ {A = Gives} (by_start v, left) forwards
@@ -79,38 +79,38 @@ module _ (old : List ℕ) (s : Scheme) (out : List ℕ) where
       forward_done {highest} eh w =
           let (m, n, is, t) = was_read (old_content s.head old 0) e in
           let top : highest ≡ highest_listed m.things = eh ∙ ap highest_listed t in
-          as_written (write_bytes out 0 (new_image old highest)) w ∙ rw (ok, is, top)
+          as_written (write_bytes out 0 (new_image old highest)) w ∙ rw (← ok, is, top)
 
 -- ---- back
 module _ (new : List ℕ) (s : Scheme) (out : List ℕ) where
   abbrev backs : Gives
   backs = moved_into (back_into new s out)
 
-  pub back_27 : accepted_scheme s ≡ false → ◌≡◌ {A = Gives} (Err (refused 27 0), out) backs
+  pub back_27 : false ≡ accepted_scheme s → ◌≡◌ {A = Gives} (Err (refused 27 0), out) backs
   unfolding back_into
-  back_27 e = rw e
+  back_27 e = rw (← e)
 
-  module _ (ok : accepted_scheme s ≡ true) where
+  module _ (ok : true ≡ accepted_scheme s) where
     -- the cells are read too, and nobody asks for them
     pub back_opened : (none : Things) → ◌≡◌ {A = MatrixAnswer × List ℕ} (read_matrix_by_head new s.head none (replicate 2304 0)) (as_matrix none (replicate 2304 0) (matrix s.head new 0))
     unfolding read_matrix_by_head
-    back_opened none = let passed : accepted_head s.head ≡ true = is_true _ (head_passes s (from_true ok)) in rw passed
+    back_opened none = let passed : accepted_head s.head ≡ true = is_true _ (head_passes s (from_true (sym ok))) in rw passed
 
     pub back_refused : {r : Refused} → Err r ≡ things_of (matrix s.head new 0) → ◌≡◌ {A = Gives} (Err r, out) backs
     unfolding back_into back
     back_refused {r} e = go (not_read (matrix s.head new 0) e)
       where
         go : (f : Refusal) × (matrix s.head new 0 ≡ fault f) × (r ≡ refused f.number f.at) → ◌≡◌ {A = Gives} (Err r, out) backs
-        go (f, is, same) = rw (ok, is, same)
+        go (f, is, same) = rw (← ok, is, same)
 
     module _ {th : Things} (e : Ok th ≡ things_of (matrix s.head new 0)) {highest : ℕ} (eh : highest ≡ highest_listed th) where
       pub back_lost : (th.highest ≡ highest → ⊥) → ◌≡◌ {A = Gives} (Err (refused 23 0), out) backs
       unfolding back_into back
-      back_lost d = let (m, n, is, t) = was_read (matrix s.head new 0) e in rw (ok, is, ← t, ← eh, ne_eqb th.highest highest d)
+      back_lost d = let (m, n, is, t) = was_read (matrix s.head new 0) e in rw (← ok, is, ← t, ← eh, ne_eqb th.highest highest d)
 
       pub back_done : th.highest ≡ highest → {v : Result ℕ Fault} {left : List ℕ} →
           ◌≡◌ {A = Result ℕ Fault × List ℕ} (v, left) (written (write_bytes out 0 (old_image new))) → ◌≡◌ {A = Gives} (by_start v, left) backs
       unfolding back_into back
       back_done same w =
           let (m, n, is, t) = was_read (matrix s.head new 0) e in
-          as_written (write_bytes out 0 (old_image new)) w ∙ rw (ok, is, ← t, ← eh, eq-eqb th.highest highest same)
+          as_written (write_bytes out 0 (old_image new)) w ∙ rw (← ok, is, ← t, ← eh, eq-eqb th.highest highest same)

@@ -11,7 +11,7 @@ use Rattle.moving.proofs.moves.forward.Goals as goal
 
 pub returns-then-not-scheme_accepted : goal.returns-then-not-scheme_accepted
 unfolding fault_of
-returns-then-not-scheme_accepted c = rw c.at_start.ensures (forward_27 _ _ _ (sym c.if-not-scheme_accepted.ensures))
+returns-then-not-scheme_accepted c = rw c.at_start.ensures (forward_27 _ _ _ c.if-not-scheme_accepted.ensures)
 
 pub read_old-requires : goal.read_old-requires
 read_old-requires c = head_passes _ (from_true (sym c.if-not-scheme_accepted.ensures))
@@ -19,10 +19,10 @@ read_old-requires c = head_passes _ (from_true (sym c.if-not-scheme_accepted.ens
 pub returns-in_err-th : goal.returns-in_err-th
 returns-in_err-th c =
     let p = err_from_is_err_and c.from_residual.result c.from_residual.ensures.1 in
-    rw (p.1, p.2) (forward_refused _ _ _ (sym c.if-not-scheme_accepted.ensures) c.in_err-th.ensures)
+    rw (p.1, p.2) (forward_refused _ _ _ c.if-not-scheme_accepted.ensures c.in_err-th.ensures)
 
 pub write_new-requires : goal.write_new-requires
-write_new-requires c = forward_long _ _ c.args.out.now (sym c.if-not-scheme_accepted.ensures) c.in_ok-th.ensures (λ i. (c.type_inv.old i).fits)
+write_new-requires c = forward_long _ _ c.args.out.now c.if-not-scheme_accepted.ensures c.in_ok-th.ensures (λ i. (c.type_inv.old i).fits)
 
 pub returns : goal.returns
-returns c = rw (started _ c.map_err.ensures.cases) (forward_done _ _ _ (sym c.if-not-scheme_accepted.ensures) c.in_ok-th.ensures c.highest_listed.ensures c.write_new.ensures)
+returns c = rw (started _ c.map_err.ensures.cases) (forward_done _ _ _ c.if-not-scheme_accepted.ensures c.in_ok-th.ensures c.highest_listed.ensures c.write_new.ensures)
