@@ -11,7 +11,7 @@ use model::{Head, Things};
 use records::{Kinds, Record, Refused};
 use rights::Right;
 
-// A fault of the head's body, or of the whole image, as a refusal: both begin at the image's start.
+// A fault as a refusal of the whole image, or of its head, which is the first record.
 pub(crate) fn at_start(fault: Fault) -> Refused
     ensures { result ≡ at_start fault }
 {
@@ -39,11 +39,7 @@ pub(crate) fn read_old(image: &[u8], h: Head) -> Result<Things, Refused>
     requires { T (accepted_head h) }
     ensures { result ≡ things_of (old_content h image.now 0) }
 {
-    let Record {
-        kind: _,
-        start,
-        len,
-    } = records::record_at(image, 0, Kinds(8))?;
+    let Record { start, len, .. } = records::record_at(image, 0, Kinds(8))?;
     let count = count_in(records::body(image, start, len), h).map_err(at_start)?;
     let mut th = things::no_things();
     let mut cells = [0u64; Things::CELLS];
