@@ -1,11 +1,11 @@
 -- The readers of a head, a test and an operation as the functions of `head` and `fields` follow them: line by line, each from its own position on.
 -- Assumes nothing.
-use Prim.Native.Nat.{ℕ, ◌+◌, ◌<◌}
+use Prim.Native.Nat.{ℕ, ◌+◌, ◌<◌, ◌≤◌}
 use native.Mathlib.Decide.{dec_lt}
 use native.Mathlib.Omega.{arith}
 use mathlib.Core.Bool.{Bool, cond}
 use mathlib.Core.List.{List}
-use mathlib.Core.Path.{◌≡◌, refl}
+use mathlib.Core.Path.{◌≡◌, refl, sym}
 use lib.Dec.{leb, ltb}
 use lib.ListN.{length, drop}
 use Rattle.std.specs.Prelude.{Result, Ok, Err}
@@ -22,7 +22,7 @@ use Rattle.model.specs.declared.Operation.{Operation}
 use Rattle.model.specs.declared.Head.{Head}
 use Rattle.records.specs.Reading.{Read, bind, ◌>>◌, done, field, number, end, whole}
 use Rattle.records.specs.Results.{value_of}
-use Rattle.records.proofs.FieldLaws.{field_end}
+use Rattle.records.proofs.FieldLaws.{field_end, field_between}
 use Rattle.records.proofs.Lines.{on, line, field_line, number_line, check_line, end_line}
 use Rattle.command_bytes.specs.Read.{head, named, test_of, test, code_of, operation_of, by_code, operation, type_in}
 use Rattle.command_bytes.specs.Inner.Parts.{three}
@@ -34,6 +34,9 @@ field_within b i low limit k {v} e = by (dec_lt i (length b))
     by : Dec (i < length b) → i < length b
     by (yes l) = l
     by (no n) = let f = field_end b i low limit k (omega (arith, n)) in absurd (cc)
+
+pub field_range : (b : List ℕ) (low limit k : ℕ) {v : ℕ} → Ok v ≡ value_of (field low limit k b) → (low ≤ v) × (v < limit)
+field_range b low limit k {v} e = field_between b low limit k v (sym e)
 
 module _ (b : List ℕ) (i : ℕ) where
   pub type_lines : (h : Head) → value_of (type_in h (drop i b)) ≡ on (λ t. Ok (type t)) Err (value_of (field 0 h.types 5 (drop i b)))

@@ -13,7 +13,7 @@ use model::{Command, Head, Operations, Parameters, Tests};
 use records::{Kinds, Refused};
 
 // The command of a body: its types, its tests, its operations, and the end.
-#[tactic(auto, using(crate::proofs::CommandLaws::command_lines))]
+#[tactic(auto, using(crate::proofs::CommandLaws::command_lines, crate::proofs::FieldReads::field_range))]
 fn command_of(b: &[u8], head: Head) -> Result<Command, Fault>
     ensures { result ≡ value_of (whole (command head) b.now) }
 {
