@@ -14,7 +14,7 @@ TOKEN = re.compile(
     r"""|(?P<word>[A-Za-z_]\w*)|(?P<number>[0-9]\w*)|(?P<sign>::|->|[^\w\s'"\\])""",
     re.ASCII | re.DOTALL,
 )
-IN_CLAUSE = re.compile(r"""--|\{-|"|⟦|«[^»]*»|[{}]""")
+IN_CLAUSE = re.compile(r"""--|\{-|//|/\*|"|⟦|«[^»]*»|[{}]""")
 DEFAULT = re.compile(r"\s*=\s*(?=\{)")
 CLOSING = {"(": ")", "[": "]", "{": "}"}
 
@@ -33,10 +33,11 @@ class Token:
     line: int
 
 
-# `asks` tells that a function has a `requires`, or binds a ghost value, which can ask as much; `exported`, that it is made for C; `odd`, why no line could be
-# said of it, if so. `head` is a function's text from its name to its last clause, `body` what it does, each token by token. Of an `impl` of a trait `path`
-# and `arguments` are the trait's and `name` the type's ("" where it is no plain name), of an import `path` is what the name stands for; `members` are the
-# items of a trait or an `impl` of one.
+# `asks` tells that a function has a `requires`, or binds a ghost value, which can ask as much; `exported`, that it is made for C; `odd`, why no line of
+# crates/tight can speak of it, if so: what is passed at a type parameter has no last value in the contract, whatever the type, and a number's contract asks
+# that arrays of its length have a size. `head` is a function's text from its name to its last clause, `body` what it does, each token by token; of a trait
+# and an alias `head` is what they name. Of an `impl` of a trait `path` and `arguments` are the trait's, and `name` is the type's ("" where that is no plain
+# name), and `head` what it is generic in; of an import `path` is what its name stands for. `members` are the items of a trait or of an `impl` of one.
 @dataclass
 class Item:
     kind: str
@@ -381,12 +382,12 @@ class Reader:
                 item.odd = item.odd or ("is generic" if generic or arguments else "")
             return found
         self.take("for")
-        name = self.word() if self.kind() == "word" else ""
-        plain = not self.arguments() and self.next() in ("{", "where")
+        name, at_types = self.word() if self.kind() == "word" else "", self.arguments()
+        if self.next() not in ("{", "where"):
+            name = ""
         self.skip_to("{")
-        members = self.members("given", name)
-        odd = "is generic" if generic else ""
-        given = Item("impl", name if plain else "", False, owner, place, odd=odd, path=path, arguments=tuple(arguments), members=members)
+        members, odd = self.members("given", name), "is generic" if generic or at_types else ""
+        given = Item("impl", name, False, owner, place, odd=odd, head=sum(generic, ()), path=path, arguments=tuple(arguments), members=members)
         return [given, *(member for member in members if member.kind == "ghost_use")]
 
 

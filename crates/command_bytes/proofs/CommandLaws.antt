@@ -18,11 +18,12 @@ use Rattle.model.specs.Arrays.{parameters_from, tests_from, operations_from, com
 use Rattle.model.specs.declared.Command.{Command}
 use Rattle.model.specs.declared.Head.{Head}
 use Rattle.model.specs.declared.Parameters.{Parameters}
-use Rattle.records.specs.Reading.{Read, got, fault, Body, bind, done, end, field, whole, ◌>>◌}
+use Rattle.records.specs.Reading.{Read, got, fault, Body, bind, done, field, whole}
 use Rattle.records.specs.Results.{value_of}
 use Rattle.records.proofs.Lines.{on, field_line, end_line}
 use Rattle.command_bytes.specs.Read.{types_in, tests_in, operations_in, command_from, command}
 use Rattle.command_bytes.specs.Inner.Parts.{in_array}
+use Rattle.command_bytes.proofs.FieldReads.{ended}
 use Rattle.command_bytes.proofs.Fixed.{steps_at, fixed_type, fixed_test, fixed_operation}
 
 -- a line that reads a list; `from` makes its array
@@ -50,21 +51,18 @@ module _ (h : Head) (b : List ℕ) where
       Err (value_of (in_array tests_from (tests_in h types t) (drop (i + 1) b))))
       Err (value_of (field 0 17 4 (drop i b)))
 
-  abbrev answer : Read (List ℕ) ℕ Command → Result Command Fault
-  answer r = value_of (bind r (λ c. end >> done c))
-
   from_lines : (types : List ThingType) (i : ℕ) → value_of (whole (command_from h types) (drop i b)) ≡ from_answer types (parameters_from types) i
   unfolding whole command_from command_of fault_of
   from_lines types i =
-      field_line answer Err (λ k. refl) b i (i + 1) _ _
-      (λ t. list_line answer Err (λ k. refl) tests_from (tests_in h types t (drop (i + 1) b)) _ _
+      field_line ended Err (λ k. refl) b i (i + 1) _ _
+      (λ t. list_line ended Err (λ k. refl) tests_from (tests_in h types t (drop (i + 1) b)) _ _
       (λ ts r e.
       let s = steps_at (λ u t. u) (λ u. fixed_test h types) t tt b (i + 1) e in
       let l : r ≡ drop (i + 1 + 4 * t) b = cc in
       let held : tests_of (tests_from ts) ≡ ts = take-append_seam ts _ in
       rw (l, held)
-      (field_line answer Err (λ k. refl) b (i + 1 + 4 * t) (i + 1 + 4 * t + 1) _ _
-      (λ o. list_line answer Err (λ k. refl) operations_from (operations_in h types ts o (drop (i + 1 + 4 * t + 1) b)) _ _
+      (field_line ended Err (λ k. refl) b (i + 1 + 4 * t) (i + 1 + 4 * t + 1) _ _
+      (λ o. list_line ended Err (λ k. refl) operations_from (operations_in h types ts o (drop (i + 1 + 4 * t + 1) b)) _ _
       (λ os q f.
       let s = steps_at (λ before o. o ∷ before) (fixed_operation h types ts) o [] b (i + 1 + 4 * t + 1) f in
       let l : q ≡ drop (i + 1 + 4 * t + 1 + 4 * o) b = cc in
@@ -78,8 +76,8 @@ module _ (h : Head) (b : List ℕ) where
       Err (value_of (field 1 9 4 b))
   unfolding whole command
   command_lines =
-      field_line answer Err (λ k. refl) b 0 1 _ _
-      (λ k. list_line answer Err (λ k. refl) parameters_from (types_in h k (drop 1 b)) _ _
+      field_line ended Err (λ k. refl) b 0 1 _ _
+      (λ k. list_line ended Err (λ k. refl) parameters_from (types_in h k (drop 1 b)) _ _
       (λ types r e.
       let s = steps_at (λ u t. u) (λ u. fixed_type h) k tt b 1 e in
       let l : r ≡ drop (1 + 1 * k) b = cc in

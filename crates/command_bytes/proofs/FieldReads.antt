@@ -1,15 +1,16 @@
 -- The readers of a head, a test and an operation as the functions of `head` and `fields` follow them: line by line, each from its own position on.
 -- Assumes nothing.
-use Prim.Native.Nat.{ℕ, ◌+◌, ◌<◌}
+use Prim.Native.Nat.{ℕ, ◌+◌, ◌<◌, ◌≤◌}
 use native.Mathlib.Decide.{dec_lt}
 use native.Mathlib.Omega.{arith}
 use mathlib.Core.Bool.{Bool, cond}
 use mathlib.Core.List.{List}
-use mathlib.Core.Path.{◌≡◌, refl}
+use mathlib.Core.Path.{◌≡◌, refl, sym}
 use lib.Dec.{leb, ltb}
 use lib.ListN.{length, drop}
-use Rattle.std.specs.Prelude.{Ok, Err}
+use Rattle.std.specs.Prelude.{Result, Ok, Err}
 use Rattle.faults.specs.Numbers.{fault_of}
+use Rattle.faults.specs.declared.Fault.{Fault}
 use Rattle.faults.specs.declared.Fault.TheVariants.{Form, BodyEnd}
 use Rattle.rights.specs.Sets.{within}
 use Rattle.rights.specs.Numberings.{right, type, parameter}
@@ -19,9 +20,9 @@ use Rattle.model.specs.Accepted.{group, last_group}
 use Rattle.model.specs.declared.Test.{Test}
 use Rattle.model.specs.declared.Operation.{Operation}
 use Rattle.model.specs.declared.Head.{Head}
-use Rattle.records.specs.Reading.{bind, ◌>>◌, done, field, number, end, whole}
+use Rattle.records.specs.Reading.{Read, bind, ◌>>◌, done, field, number, end, whole}
 use Rattle.records.specs.Results.{value_of}
-use Rattle.records.proofs.FieldLaws.{field_end}
+use Rattle.records.proofs.FieldLaws.{field_end, field_between}
 use Rattle.records.proofs.Lines.{on, line, field_line, number_line, check_line, end_line}
 use Rattle.command_bytes.specs.Read.{head, named, test_of, test, code_of, operation_of, by_code, operation, type_in}
 use Rattle.command_bytes.specs.Inner.Parts.{three}
@@ -33,6 +34,9 @@ field_within b i low limit k {v} e = by (dec_lt i (length b))
     by : Dec (i < length b) → i < length b
     by (yes l) = l
     by (no n) = let f = field_end b i low limit k (omega (arith, n)) in absurd (cc)
+
+pub field_range : (b : List ℕ) (low limit k : ℕ) {v : ℕ} → Ok v ≡ value_of (field low limit k b) → (low ≤ v) × (v < limit)
+field_range b low limit k {v} e = field_between b low limit k v (sym e)
 
 module _ (b : List ℕ) (i : ℕ) where
   pub type_lines : (h : Head) → value_of (type_in h (drop i b)) ≡ on (λ t. Ok (type t)) Err (value_of (field 0 h.types 5 (drop i b)))
@@ -78,7 +82,10 @@ module _ (b : List ℕ) (i : ℕ) where
         (line value_of Err (λ k. refl) (by_code h types tests before (code_of code) (drop (i + 1) b)) _ _ (λ n rest e. refl)))
         1 5 6 refl
 
--- ---- the head, and its end
+-- ---- what a body that is read to its end gives; and the head
+abbrev pub ended : {A : Type 0} → Read (List ℕ) ℕ A → Result A Fault
+ended r = value_of (bind r (λ a. end >> done a))
+
 pub head_lines : (b : List ℕ) → value_of (whole head b) ≡
     on
     (λ n. on
@@ -93,11 +100,11 @@ pub head_lines : (b : List ℕ) → value_of (whole head b) ≡
     Err (value_of (field 1 65 4 b))
 unfolding whole head fault_of
 head_lines b =
-    field_line (λ r. value_of (bind r (λ h. end >> done h))) Err (λ k. refl) b 0 1 _ _
-    (λ n. field_line (λ r. value_of (bind r (λ h. end >> done h))) Err (λ k. refl) b 1 2 _ _
-    (λ m. number_line (λ r. value_of (bind r (λ h. end >> done h))) Err (λ k. refl) b 2 4 _ _
-    (λ s. check_line (λ r. value_of (bind r (λ h. end >> done h))) Err (λ k. refl) (within m s) 6 (drop 4 b) _ _
-    (field_line (λ r. value_of (bind r (λ h. end >> done h))) Err (λ k. refl) b 4 5 _ _
+    field_line ended Err (λ k. refl) b 0 1 _ _
+    (λ n. field_line ended Err (λ k. refl) b 1 2 _ _
+    (λ m. number_line ended Err (λ k. refl) b 2 4 _ _
+    (λ s. check_line ended Err (λ k. refl) (within m s) 6 (drop 4 b) _ _
+    (field_line ended Err (λ k. refl) b 4 5 _ _
     (λ count. end_line value_of Err (λ k. refl) b 5 _ _ refl) 1 33 4 refl))
     2 refl)
     1 17 4 refl)

@@ -1,32 +1,68 @@
--- What a record says, from the record that was found and what was made of its body: as a function with `?` follows it.
+-- What a record says, as `read_head` and `read_command` follow it: the record that stands there, and its body.
 -- Assumes nothing.
-use Prim.Native.Nat.{ℕ, ◌+◌}
+use Prim.Native.Nat.{ℕ, ◌+◌, ◌≤◌}
+use mathlib.Core.Bool.{Bool, true, false, cond}
 use mathlib.Core.List.{List}
-use mathlib.Core.Path.{◌≡◌, ap}
-use Rattle.std.specs.Prelude.{Ok, Err}
-use Rattle.faults.specs.declared.Fault.{Fault}
+use mathlib.Core.Path.{◌≡◌, refl, sym}
+use lib.ListN.{length}
+use Rattle.std.specs.Prelude.{Result, Ok, Err}
+use Rattle.faults.specs.Numbers.{fault_of}
+use Rattle.faults.specs.declared.Fault.TheVariants.{NotAccepted}
+use Rattle.model.specs.Accepted.{accepted_head}
+use Rattle.model.specs.declared.Head.{Head}
 use Rattle.records.specs.Bytes.{part}
-use Rattle.records.specs.Front.{record_at, in_record}
-use Rattle.records.specs.Reading.{Body, whole}
+use Rattle.records.specs.Front.{record_at, in_record, on_record, on_body, against}
+use Rattle.records.specs.Outcome.RecordAnswer.{RecordAnswer}
+use Rattle.records.specs.Outcome.RecordAnswer as record_answer
+use Rattle.records.specs.Reading.{Read, got, fault, Body, whole}
 use Rattle.records.specs.Results.{value_of, item_of, record_result}
 use Rattle.records.specs.declared.Record.{Record}
 use Rattle.records.specs.declared.Refused.{Refused}
-use Rattle.records.proofs.FieldLaws.{value_back, fault_back}
-use Rattle.records.proofs.FrontLaws.{in_refused, in_record_lem}
-use Rattle.records.proofs.ResultLaws.{record_back, refused_back}
+use Rattle.records.proofs.FrontLaws.{record_found}
+use Rattle.records.proofs.Lines.{on}
+use Rattle.records.proofs.ResultLaws.{record_back}
+use Rattle.command_bytes.specs.Read.{head, command}
+use Rattle.command_bytes.specs.Answers.{read_head, read_command}
 
-module _ {A : Type 0} (s : List ℕ) (at kinds : ℕ) (p : ℕ → Body A) where
-  -- no record of these kinds
-  pub item_refused : {r : Refused} → record_result (record_at s at kinds) ≡ Err r → Err r ≡ item_of (in_record s kinds p at)
-  item_refused e = let (k, q, f, g) = refused_back (record_at s at kinds) e in rw (in_refused s at kinds p k q f) (ap Err g)
+-- on with the record that was found, or out with the refusal
+module _ {R : Type 0} (go : Record → R) (out : Refused → R) where
+  abbrev pub on_found : Result Record Refused → R
+  on_found (Ok r) = go r
+  on_found (Err r) = out r
 
-  module _ {r : Record} (e : record_result (record_at s at kinds) ≡ Ok r) where
-    pub item_fault : {f : Fault} → value_of (whole (p r.kind) (part s r.start r.len)) ≡ Err f → Err (record { fault = f; at = at }) ≡ item_of (in_record s kinds p at)
-    item_fault d =
-        let g = fault_back (whole (p r.kind) (part s r.start r.len)) d in
-        rw (in_record_lem s at kinds p r.kind r.start r.len (record_back (record_at s at kinds) e), g.1) (ap (λ (x : Fault). Err (record { fault = x; at = at })) g.2)
+-- a record that was found ends at a position
+pub found_within : (s : List ℕ) (at kinds : ℕ) {r : Record} → Ok r ≡ record_result (record_at s at kinds) → r.start + r.len ≤ length s
+found_within s at kinds {r} e = (record_found s at kinds r.kind r.start r.len (record_back (record_at s at kinds) (sym e))).inside
 
-    pub item_found : {a : A} → value_of (whole (p r.kind) (part s r.start r.len)) ≡ Ok a → Ok (a, r.start + r.len) ≡ item_of (in_record s kinds p at)
-    item_found d =
-        let g = value_back (whole (p r.kind) (part s r.start r.len)) d in
-        rw (in_record_lem s at kinds p r.kind r.start r.len (record_back (record_at s at kinds) e), g.1)
+module _ {A : Type 0} (s : List ℕ) (at kinds : ℕ) (p : Body A) where
+  abbrev pub item_at : Result (A × ℕ) Refused
+  item_at =
+      on_found (λ r. on (λ a. Ok (a, r.start + r.len)) (λ f. Err (record { fault = f; at = at })) (value_of (whole p (part s r.start r.len)))) Err
+      (record_result (record_at s at kinds))
+
+  item_lines : item_of (in_record s kinds (λ kind. p) at) ≡ item_at
+  unfolding in_record
+  item_lines = go (record_at s at kinds)
+    where
+      go : (a : RecordAnswer) → item_of (on_record s at (λ kind. p) a) ≡
+          on_found (λ r. on (λ a. Ok (a, r.start + r.len)) (λ f. Err (record { fault = f; at = at })) (value_of (whole p (part s r.start r.len)))) Err (record_result a)
+      go (record_answer.Record kind start len) = by (whole p (part s start len))
+        where
+          by : (m : Read (List ℕ) ℕ A) → item_of (on_body at (start + len) m) ≡ on (λ a. Ok (a, start + len)) (λ f. Err (record { fault = f; at = at })) (value_of m)
+          by (got a t) = refl
+          by (fault k) = refl
+      go (record_answer.Refused k q) = refl
+
+-- ---- the two functions
+module _ (s : List ℕ) (at : ℕ) where
+  pub read_head_lines : read_head s at ≡ item_at s at 2 head
+  unfolding read_head
+  read_head_lines = item_lines s at 2 head
+
+  pub read_command_lines : (h : Head) → read_command s at h ≡ cond (accepted_head h) (item_at s at 4 (command h)) (Err (record { fault = NotAccepted; at = 0 }))
+  unfolding read_command fault_of
+  read_command_lines h = go (accepted_head h)
+    where
+      go : (b : Bool) → item_of (against b (in_record s 4 (λ kind. command h) at)) ≡ cond b (item_at s at 4 (command h)) (Err (record { fault = NotAccepted; at = 0 }))
+      go true = item_lines s at 4 (command h)
+      go false = refl

@@ -13,7 +13,7 @@ use model::{Command, Head, Operations, Parameters, Tests};
 use records::{Kinds, Refused};
 
 // The command of a body: its types, its tests, its operations, and the end.
-#[tactic(auto, using(crate::proofs::CommandLaws::command_lines))]
+#[tactic(auto, using(crate::proofs::CommandLaws::command_lines, crate::proofs::FieldReads::field_range))]
 fn command_of(b: &[u8], head: Head) -> Result<Command, Fault>
     ensures { result ≡ value_of (whole (command head) b.now) }
 {
@@ -37,6 +37,7 @@ fn command_of(b: &[u8], head: Head) -> Result<Command, Fault>
 }
 
 // The command's record at a position, and the next position: 27 for a head that no reading gives.
+#[tactic(auto, using(crate::proofs::ItemLaws::read_command_lines, crate::proofs::ItemLaws::found_within))]
 pub fn read_command(s: &[u8], at: usize, h: Head) -> Result<(Command, usize), Refused>
     ensures { result ≡ read_command s.now at h }
 {

@@ -34,6 +34,7 @@ fn head_of(b: &[u8]) -> Result<Head, Fault>
 }
 
 // The head's record at a position, and the next position.
+#[tactic(auto, using(crate::proofs::ItemLaws::read_head_lines, crate::proofs::ItemLaws::found_within))]
 pub fn read_head(s: &[u8], at: usize) -> Result<(Head, usize), Refused>
     ensures { result ≡ read_head s.now at }
 {

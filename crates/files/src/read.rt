@@ -7,7 +7,7 @@ use std::io::{ErrorKind, Read};
 // The most bytes that a scheme, a matrix or a list of requests has.
 pub const LONGEST: usize = 65536;
 
-// What a file holds; nothing, where there is no such file. Of a longer one than `LONGEST` a byte more, which shows that it is longer: a device may have no end.
+// What a file holds, if there is one. Of one longer than `LONGEST` a byte more, which shows that it is longer, and no further: a device may have no end.
 pub(crate) fn read(rt: &HostRuntime, path: &str) -> io::Result<Option<Vec<u8>>> {
     let file = match File::open(rt, path) {
         Ok(file) => file,

@@ -13,8 +13,9 @@ use Rattle.laws.proofs.Differ.{constructors_differ}
 use Rattle.model.specs.Seats.{Matrix, thing_in}
 use Rattle.model.specs.declared.Head.{Head}
 use Rattle.records.specs.Bytes.{part}
-use Rattle.records.specs.Reading.{Read, got, fault, Reader, bind, check, done, ◌>>=◌, field, as_field}
+use Rattle.records.specs.Reading.{Read, got, fault, Reader, bind, check, done, ◌>>=◌, field}
 use Rattle.records.specs.Front.{Refusal, in_record}
+use Rattle.records.specs.Results.{value_of}
 use Rattle.records.proofs.FieldLaws.{field_between}
 use Rattle.records.proofs.Trip.{Bytes}
 use Rattle.records.proofs.TripRecord.{in_record_back}
@@ -34,7 +35,7 @@ head_few : (h : Head) (l : List ℕ) → Gives (λ count. count ≤ 48) (old_hea
 unfolding old_head
 head_few h l =
     gives_last (field 1 65 4 l) _ λ n i. gives_last (check (eqb n h.rights) 6 i) _ λ same j.
-    λ count k e. omega (arith, (field_between j 0 49 4 count (ap as_field e)).1)
+    λ count k e. omega (arith, (field_between j 0 49 4 count (ap value_of e)).1)
 
 record_few : (h : Head) (s : List ℕ) (at : ℕ) → Gives (λ count. count ≤ 48) (in_record s 8 (λ kind. old_head h) at)
 record_few h s at count next e =

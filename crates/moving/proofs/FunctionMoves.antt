@@ -30,8 +30,8 @@ use Rattle.moving.specs.Answers.{by_writing, as_moved, forward_into, back_into}
 use Rattle.moving.specs.FunctionMoves.{FunctionMoves}
 use Rattle.moving.specs.Moves.{forward, back}
 use Rattle.moving.specs.Old.{old_matrix}
-use Rattle.moving.specs.declared.answers.Moved.{Moved}
-use Rattle.moving.specs.declared.answers.Moved.TheVariants.{Done}
+use Rattle.moving.specs.Outcome.Moved.{Moved}
+use Rattle.moving.specs.Outcome.Moved.{Done}
 use Rattle.moving.proofs.Images.{old_back}
 use Rattle.moving.proofs.Moving.{moves_keep}
 

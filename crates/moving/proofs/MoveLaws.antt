@@ -1,23 +1,26 @@
--- Forward and back, as the returns of the two functions have them: what was read, and what was written of it.
+-- Both ways, as the returns of the functions have them: 27, the reading, 23 on the way back, and what is written.
 -- Assumes nothing.
 use Prim.Native.Nat.{ℕ, ◌≤◌}
 use mathlib.Core.Bool.{true, false}
 use mathlib.Core.List.{List}
-use mathlib.Core.Path.{◌≡◌, refl, ap, ◌∙◌}
+use mathlib.Core.Path.{◌≡◌, refl, sym, ap, ◌∙◌}
 use lib.ListN.{length, replicate}
 use borrow.Author.Tests.{eq-eqb, ne_eqb}
+use Rattle.std.specs.Prelude.{Result, Ok, Err}
+use Rattle.faults.specs.declared.Fault.{Fault}
 use Rattle.laws.proofs.Bools.{is_true, from_true}
 use Rattle.laws.proofs.Differ.{constructors_differ}
 use Rattle.model.specs.Accepted.{accepted_head, accepted_scheme}
-use Rattle.model.specs.Seats.{Matrix, no_things}
+use Rattle.model.specs.Seats.{Matrix}
 use Rattle.model.specs.declared.Scheme.{Scheme}
 use Rattle.model.specs.declared.Things.{Things}
 use Rattle.records.specs.Reading.{Read, got, fault}
 use Rattle.records.specs.Front.{Refusal}
-use Rattle.records.specs.Told.{of_reading, reading_place}
+use Rattle.records.specs.Results.{refused, written}
 use Rattle.records.specs.Writing.{write_bytes}
-use Rattle.records.specs.Outcome.Reading.{Reading}
-use Rattle.records.specs.Outcome.Reading as reading
+use Rattle.records.specs.Outcome.Writing.{Writing}
+use Rattle.records.specs.Outcome.Writing as writing
+use Rattle.records.specs.declared.Refused.{Refused}
 use Rattle.records.proofs.Trip.{Bytes}
 use Rattle.matrix_bytes.specs.Answers.{as_matrix, read_matrix_by_head}
 use Rattle.matrix_bytes.specs.Read.{matrix}
@@ -25,94 +28,89 @@ use Rattle.matrix_bytes.specs.MatrixAnswer.{MatrixAnswer}
 use Rattle.matrix_bytes.proofs.RoundTrips.{head_passes}
 use Rattle.moving.specs.Old.{highest_listed, by_listed, old_content, old_matrix}
 use Rattle.moving.specs.Moves.{new_image, old_image, forward, back}
-use Rattle.moving.specs.Answers.{by_writing, forward_into, back_into}
-use Rattle.moving.specs.Inner.Parts.{as_read}
-use Rattle.moving.specs.declared.answers.Moved.{Moved}
-use Rattle.moving.specs.declared.answers.Moved.TheVariants.{Refused}
+use Rattle.moving.specs.Answers.{by_writing, moved_into, forward_into, back_into}
+use Rattle.moving.specs.Inner.Parts.{things_of}
 use Rattle.moving.proofs.OldTrips.{old_long}
+use Rattle.moving.proofs.OldReads.{by_start}
 
--- ---- from the answer of a reading back to what was read
-module _ (x : Read ℕ Refusal Matrix) (r : MatrixAnswer) (er : r ≡ as_read x) where
-  read_refused : (k q v w : ℕ) → r.answer ≡ reading.Refused k q → v ≡ (of_reading r.answer).number → w ≡ reading_place r.answer →
-      x ≡ fault (record { number = v; at = w })
-  read_refused k q v w e ev ew = go x (ap (λ (a : MatrixAnswer). a.answer) er)
-    where
-      go : (x : Read ℕ Refusal Matrix) → r.answer ≡ (as_read x).answer → x ≡ fault (record { number = v; at = w })
-      go (got m n) f = constructors_differ (cc)
-      go (fault f) g =
-          let y : v ≡ f.number = ev ∙ ap (λ (a : Reading). (of_reading a).number) g in
-          let z : w ≡ f.at = ew ∙ ap reading_place g in
-          rw (y, z)
+-- what a function gives, with what the lent buffer then holds
+abbrev Gives : Type 0
+Gives = Result ℕ Refused × List ℕ
 
-  read_done : (n : ℕ) → r.answer ≡ reading.Done n → (m : Matrix) × (x ≡ got m n) × (r.things ≡ m.things)
-  read_done n e = go x (ap (λ (a : MatrixAnswer). a.answer) er) (ap (λ (a : MatrixAnswer). a.things) er)
-    where
-      go : (x : Read ℕ Refusal Matrix) → r.answer ≡ (as_read x).answer → r.things ≡ (as_read x).things → (m : Matrix) × (x ≡ got m n) × (r.things ≡ m.things)
-      go (got m k) f t = let y : k ≡ n = cc in (m, rw y, t)
-      go (fault f) g t = constructors_differ (cc)
+-- ---- from the things that were given back to what was read
+not_read : (x : Read ℕ Refusal Matrix) {r : Refused} → Err r ≡ things_of x → (f : Refusal) × (x ≡ fault f) × (r ≡ refused f.number f.at)
+not_read (got m n) e = constructors_differ (cc)
+not_read (fault f) {r} e = (f, refl, let same : r ≡ refused f.number f.at = cc in same)
+
+was_read : (x : Read ℕ Refusal Matrix) {th : Things} → Ok th ≡ things_of x → (m : Matrix) × (n : ℕ) × (x ≡ got m n) × (th ≡ m.things)
+was_read (got m n) {th} e = (m, n, refl, let same : th ≡ m.things = cc in same)
+was_read (fault f) e = constructors_differ (cc)
+
+-- ---- and from what was written to what is answered
+as_written : (w : Writing × List ℕ) {v : Result ℕ Fault} {left : List ℕ} → ◌≡◌ {A = Result ℕ Fault × List ℕ} (v, left) (written w) →
+    ◌≡◌ {A = Gives} (by_start v, left) (moved_into (by_writing w))
+as_written (writing.Done n, l) e = ap (λ (p : Result ℕ Fault × List ℕ). (by_start p.0, p.1)) e
+as_written (writing.Refused k, l) e = ap (λ (p : Result ℕ Fault × List ℕ). (by_start p.0, p.1)) e
 
 -- ---- forward
 module _ (old : List ℕ) (s : Scheme) (out : List ℕ) where
-  abbrev forwards : Moved × List ℕ
-  forwards = forward_into old s out
+  abbrev forwards : Gives
+  forwards = moved_into (forward_into old s out)
 
-  pub forward_27 : accepted_scheme s ≡ false → ◌≡◌ {A = Moved × List ℕ} (Refused 27 0, out) forwards
+  pub forward_27 : false ≡ accepted_scheme s → ◌≡◌ {A = Gives} (Err (refused 27 0), out) forwards
   unfolding forward_into
-  forward_27 e = rw e
+  forward_27 e = rw (← e)
 
-  module _ (ok : accepted_scheme s ≡ true) (r : MatrixAnswer) (er : r ≡ as_read (old_content s.head old 0)) where
-    pub forward_refused : (k q v w : ℕ) → r.answer ≡ reading.Refused k q → v ≡ (of_reading r.answer).number → w ≡ reading_place r.answer →
-        ◌≡◌ {A = Moved × List ℕ} (Refused v w, out) forwards
+  module _ (ok : true ≡ accepted_scheme s) where
+    pub forward_refused : {r : Refused} → Err r ≡ things_of (old_content s.head old 0) → ◌≡◌ {A = Gives} (Err r, out) forwards
     unfolding forward_into forward old_matrix
-    forward_refused k q v w e ev ew = rw (ok, read_refused (old_content s.head old 0) r er k q v w e ev ew)
+    forward_refused {r} e = go (not_read (old_content s.head old 0) e)
+      where
+        go : (f : Refusal) × (old_content s.head old 0 ≡ fault f) × (r ≡ refused f.number f.at) → ◌≡◌ {A = Gives} (Err r, out) forwards
+        go (f, is, same) = rw (← ok, is, same)
 
-    module _ (n : ℕ) (e : r.answer ≡ reading.Done n) where
+    module _ {th : Things} (e : Ok th ≡ things_of (old_content s.head old 0)) where
       pub forward_long : Bytes old → 6 ≤ length old
-      forward_long g = let (m, f, t) = read_done (old_content s.head old 0) r er n e in old_long s.head old m n (head_passes s (from_true ok)) g f
+      forward_long g = let (m, n, is, t) = was_read (old_content s.head old 0) e in old_long s.head old m n (head_passes s (from_true (sym ok))) g is
 
-      pub forward_done : (highest : ℕ) → highest ≡ highest_listed r.things → (x : Moved × List ℕ) → x ≡ by_writing (write_bytes out 0 (new_image old highest)) → x ≡ forwards
+      pub forward_done : {highest : ℕ} → highest ≡ highest_listed th → {v : Result ℕ Fault} {left : List ℕ} →
+          ◌≡◌ {A = Result ℕ Fault × List ℕ} (v, left) (written (write_bytes out 0 (new_image old highest))) → ◌≡◌ {A = Gives} (by_start v, left) forwards
       unfolding forward_into forward old_matrix by_listed
-      forward_done highest eh x ex =
-          let (m, f, t) = read_done (old_content s.head old 0) r er n e in
-          let is : highest ≡ highest_listed m.things = eh ∙ ap highest_listed t in
-          ex ∙ rw (ok, f, is)
+      forward_done {highest} eh w =
+          let (m, n, is, t) = was_read (old_content s.head old 0) e in
+          let top : highest ≡ highest_listed m.things = eh ∙ ap highest_listed t in
+          as_written (write_bytes out 0 (new_image old highest)) w ∙ rw (← ok, is, top)
 
 -- ---- back
 module _ (new : List ℕ) (s : Scheme) (out : List ℕ) where
-  abbrev backs : Moved × List ℕ
-  backs = back_into new s out
+  abbrev backs : Gives
+  backs = moved_into (back_into new s out)
 
-  pub back_27 : accepted_scheme s ≡ false → ◌≡◌ {A = Moved × List ℕ} (Refused 27 0, out) backs
+  pub back_27 : false ≡ accepted_scheme s → ◌≡◌ {A = Gives} (Err (refused 27 0), out) backs
   unfolding back_into
-  back_27 e = rw e
+  back_27 e = rw (← e)
 
-  module _ (ok : accepted_scheme s ≡ true) (none : Things) (en : none ≡ no_things) (r : MatrixAnswer) (cells : List ℕ)
-      (er : ◌≡◌ {A = MatrixAnswer × List ℕ} (r, cells) (read_matrix_by_head new s.head none (replicate 2304 0))) where
+  module _ (ok : true ≡ accepted_scheme s) where
     -- the cells are read too, and nobody asks for them
-    its_read : r ≡ as_read (matrix s.head new 0)
+    pub back_opened : (none : Things) → ◌≡◌ {A = MatrixAnswer × List ℕ} (read_matrix_by_head new s.head none (replicate 2304 0)) (as_matrix none (replicate 2304 0) (matrix s.head new 0))
     unfolding read_matrix_by_head
-    its_read =
-        let passed : accepted_head s.head ≡ true = is_true _ (head_passes s (from_true ok)) in
-        ap (λ (x : MatrixAnswer × List ℕ). x.0) er ∙ rw (passed, en) (go (matrix s.head new 0))
-      where
-        go : (x : Read ℕ Refusal Matrix) → (as_matrix no_things (replicate 2304 0) x).0 ≡ as_read x
-        go (got m next) = refl
-        go (fault f) = refl
+    back_opened none = let passed : accepted_head s.head ≡ true = is_true _ (head_passes s (from_true (sym ok))) in rw passed
 
-    pub back_refused : (k q v w : ℕ) → r.answer ≡ reading.Refused k q → v ≡ (of_reading r.answer).number → w ≡ reading_place r.answer →
-        ◌≡◌ {A = Moved × List ℕ} (Refused v w, out) backs
+    pub back_refused : {r : Refused} → Err r ≡ things_of (matrix s.head new 0) → ◌≡◌ {A = Gives} (Err r, out) backs
     unfolding back_into back
-    back_refused k q v w e ev ew = rw (ok, read_refused (matrix s.head new 0) r its_read k q v w e ev ew)
+    back_refused {r} e = go (not_read (matrix s.head new 0) e)
+      where
+        go : (f : Refusal) × (matrix s.head new 0 ≡ fault f) × (r ≡ refused f.number f.at) → ◌≡◌ {A = Gives} (Err r, out) backs
+        go (f, is, same) = rw (← ok, is, same)
 
-    module _ (n : ℕ) (e : r.answer ≡ reading.Done n) (highest : ℕ) (eh : highest ≡ highest_listed r.things) where
-      pub back_lost : (r.things.highest ≡ highest → ⊥) → ◌≡◌ {A = Moved × List ℕ} (Refused 23 0, out) backs
+    module _ {th : Things} (e : Ok th ≡ things_of (matrix s.head new 0)) {highest : ℕ} (eh : highest ≡ highest_listed th) where
+      pub back_lost : (th.highest ≡ highest → ⊥) → ◌≡◌ {A = Gives} (Err (refused 23 0), out) backs
       unfolding back_into back
-      back_lost d =
-          let (m, f, t) = read_done (matrix s.head new 0) r its_read n e in
-          rw (ok, f, ← t, ← eh, ne_eqb r.things.highest highest d)
+      back_lost d = let (m, n, is, t) = was_read (matrix s.head new 0) e in rw (← ok, is, ← t, ← eh, ne_eqb th.highest highest d)
 
-      pub back_done : r.things.highest ≡ highest → (x : Moved × List ℕ) → x ≡ by_writing (write_bytes out 0 (old_image new)) → x ≡ backs
+      pub back_done : th.highest ≡ highest → {v : Result ℕ Fault} {left : List ℕ} →
+          ◌≡◌ {A = Result ℕ Fault × List ℕ} (v, left) (written (write_bytes out 0 (old_image new))) → ◌≡◌ {A = Gives} (by_start v, left) backs
       unfolding back_into back
-      back_done same x ex =
-          let (m, f, t) = read_done (matrix s.head new 0) r its_read n e in
-          ex ∙ rw (ok, f, ← t, ← eh, eq-eqb r.things.highest highest same)
+      back_done same w =
+          let (m, n, is, t) = was_read (matrix s.head new 0) e in
+          as_written (write_bytes out 0 (old_image new)) w ∙ rw (← ok, is, ← t, ← eh, eq-eqb th.highest highest same)

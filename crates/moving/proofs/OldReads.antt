@@ -1,129 +1,136 @@
--- Reading an old image, as the returns of the functions have it: the head's body, line by line; what stands behind the head; and the highest id of a list.
+-- Reading an old image, as the functions follow it: the head's body, line by line; what stands behind the head; and the highest id of a list.
 -- Assumes nothing.
-use Prim.Native.Nat.{ℕ, ◌+◌, ◌≤◌, ◌<◌, max}
+use Prim.Native.Nat.{ℕ, ◌+◌, max}
 use native.Mathlib.Omega.{arith}
-use mathlib.Core.List.{List, []}
+use mathlib.Core.Bool.{cond}
+use mathlib.Core.List.{List, [], ◌∷◌}
 use mathlib.Core.Path.{◌≡◌, refl, sym, ap, ◌∙◌}
-use lib.Dec.{T}
-use lib.ListN.{length, drop, get_or, replicate}
-use borrow.Author.Tests.{eq-eqb, ne_eqb}
+use lib.Dec.{T, eqb, ltb}
+use lib.ListN.{length, drop, replicate}
+use Rattle.std.specs.Prelude.{Result, Ok, Err, MatchResult}
+use Rattle.std.specs.Result.{IsErrAnd}
+use Rattle.std.proofs.lemmas.Result.{err_from_is_err_and}
+use Rattle.std.specs.List.{fold, reduce}
+use Rattle.std.specs.Option.{unwrap_or}
+use Rattle.faults.specs.Numbers.{fault_of}
+use Rattle.faults.specs.declared.Fault.{Fault}
 use Rattle.model.specs.Accepted.{accepted_head}
-use Rattle.model.specs.Seats.{Matrix, no_things}
+use Rattle.model.specs.Seats.{Matrix}
 use Rattle.model.specs.declared.Head.{Head}
 use Rattle.model.specs.declared.Things.{Things}
 use Rattle.records.specs.Bytes.{part}
-use Rattle.records.specs.Reading.{Read, got, fault, field, whole, as_field}
-use Rattle.records.specs.Front.{Refusal, record_at, in_record}
-use Rattle.records.specs.Told.{of_field, of_record, record_place}
-use Rattle.records.specs.declared.Field.{Field}
-use Rattle.records.specs.declared.Field.TheVariants.{Value, Fault}
-use Rattle.records.specs.Outcome.Reading as reading
+use Rattle.records.specs.Reading.{Read, got, fault, bind, done, end, ◌>>◌, field, whole}
+use Rattle.records.specs.Front.{Refusal, record_at, in_record, on_record, on_body}
 use Rattle.records.specs.Outcome.RecordAnswer.{RecordAnswer}
-use Rattle.records.specs.Outcome.RecordAnswer.{Record, Refused}
-use Rattle.records.proofs.FieldLaws.{one_off, none_left, field_fault}
-use Rattle.records.proofs.FrontLaws.{in_refused, in_record_lem}
+use Rattle.records.specs.Outcome.RecordAnswer as record_answer
+use Rattle.records.specs.Results.{value_of, record_result, refused}
+use Rattle.records.specs.declared.Record.{Record}
+use Rattle.records.specs.declared.Refused.{Refused}
+use Rattle.records.proofs.FrontLaws.{in_record_lem}
+use Rattle.records.proofs.Lines.{on, field_line, check_line, end_line}
+use Rattle.records.proofs.ResultLaws.{record_back}
 use Rattle.records.proofs.Trip.{Bytes}
 use Rattle.matrix_records.proofs.Trips.{head_sized}
 use Rattle.matrix_bytes.specs.Read.{rest}
-use Rattle.matrix_bytes.specs.Answers.{as_matrix, read_rest}
-use Rattle.matrix_bytes.specs.MatrixAnswer.{MatrixAnswer}
+use Rattle.matrix_bytes.specs.Answers.{as_matrix, matrix_result, read_rest}
 use Rattle.matrix_bytes.proofs.ReadMatrix.{rest_opened}
 use Rattle.matrix_bytes.proofs.Trips.{stand_le}
 use Rattle.laws.proofs.Differ.{constructors_differ}
 use Rattle.moving.specs.Old.{old_head, old_content, highest_of}
-use Rattle.moving.specs.Inner.Parts.{refused_at, as_read}
+use Rattle.moving.specs.Inner.Parts.{at_start, things_of}
 use Rattle.moving.proofs.OldTrips.{old_head_record}
 
+-- what `map_err` gives by that
+module _ {A : Type 0} where
+  abbrev pub by_start : Result A Fault → Result A Refused
+  by_start (Ok v) = Ok v
+  by_start (Err f) = Err (at_start f)
+
+  pub started : (m : Result A Fault) {r : Result A Refused} → MatchResult m (λ v. r ≡ Ok v) (λ f. IsErrAnd r (λ e. e ≡ at_start f)) → r ≡ by_start m
+  started (Ok v) h = h
+  started (Err f) {r} h = let (e, is, same) = err_from_is_err_and r h in is ∙ ap Err same
+
 -- ---- the head's body
-module _ (b : List ℕ) (h : Head) where
-  pub old_no_rights : (k : ℕ) → field 1 65 4 b ≡ fault k → whole (old_head h) b ≡ fault k
-  unfolding whole old_head
-  old_no_rights k e = rw e
+pub old_lines : (b : List ℕ) (h : Head) → value_of (whole (old_head h) b) ≡
+    on (λ n. cond (eqb n h.rights)
+    (on (λ count. cond (ltb 2 (length b)) (Err (fault_of 3)) (Ok count)) Err (value_of (field 0 49 4 (drop 1 b))))
+    (Err (fault_of 6)))
+    Err (value_of (field 1 65 4 b))
+unfolding whole old_head
+old_lines b h =
+    let answer : Read (List ℕ) ℕ ℕ → Result ℕ Fault = λ m. value_of (bind m (λ a. end >> done a)) in
+    field_line answer Err (λ k. refl) b 0 1 _ _
+    (λ n. check_line answer Err (λ k. refl) (eqb n h.rights) 6 (drop 1 b) _ _
+    (field_line value_of Err (λ k. refl) b 1 2 _ _ (λ count. end_line value_of Err (λ k. refl) b 2 count (Ok count) refl) 0 49 4 refl)) 1 65 4 refl
 
-  module _ (n : ℕ) (en : field 1 65 4 b ≡ got n (drop 1 b)) where
-    pub old_other : (n ≡ h.rights → ⊥) → whole (old_head h) b ≡ fault 6
-    unfolding whole old_head
-    old_other d = rw (en, ne_eqb n h.rights d)
+-- ---- an image that is read whole, from what the reader gives that takes things and cells to keep
+module _ (x : Read ℕ Refusal Matrix) (things th : Things) (cells left : List ℕ) where
+  pub not_kept : {r : Refused} → ◌≡◌ {A = Result ℕ Refused × Things × List ℕ} (Err r, th, left) (matrix_result (as_matrix things cells x)) → Err r ≡ things_of x
+  not_kept {r} e = go x (ap (λ (p : Result ℕ Refused × Things × List ℕ). p.0) e)
+    where
+      go : (x : Read ℕ Refusal Matrix) → Err r ≡ (matrix_result (as_matrix things cells x)).0 → Err r ≡ things_of x
+      go (got m n) f = constructors_differ (cc)
+      go (fault k) f = let same : r ≡ refused k.number k.at = cc in ap Err same
 
-    module _ (same : n ≡ h.rights) where
-      pub old_no_count : (k : ℕ) → field 0 49 4 (drop 1 b) ≡ fault k → whole (old_head h) b ≡ fault k
-      unfolding whole old_head
-      old_no_count k e = rw (en, eq-eqb n h.rights same, e)
-
-      module _ (count : ℕ) (ec : field 0 49 4 (drop 1 b) ≡ got count (drop 2 b)) where
-        pub old_more : 2 < length b → whole (old_head h) b ≡ fault 3
-        unfolding whole old_head
-        old_more l = rw (en, eq-eqb n h.rights same, ec, one_off b 2 l)
-
-        pub old_whole : length b ≤ 2 → whole (old_head h) b ≡ got count []
-        unfolding whole old_head
-        old_whole l = rw (en, eq-eqb n h.rights same, ec, none_left b 2 l)
+  pub kept : {n : ℕ} → ◌≡◌ {A = Result ℕ Refused × Things × List ℕ} (Ok n, th, left) (matrix_result (as_matrix things cells x)) → Ok th ≡ things_of x
+  kept {n} e = go x (ap (λ (p : Result ℕ Refused × Things × List ℕ). p.0) e) (ap (λ (p : Result ℕ Refused × Things × List ℕ). p.1) e)
+    where
+      go : (x : Read ℕ Refusal Matrix) → Ok n ≡ (matrix_result (as_matrix things cells x)).0 → th ≡ (matrix_result (as_matrix things cells x)).1 → Ok th ≡ things_of x
+      go (got m k) f t = ap Ok t
+      go (fault k) f t = constructors_differ (cc)
 
 -- ---- the image
-pub nobody_there : (k at : ℕ) (th : Things) → th ≡ no_things → ◌≡◌ {A = MatrixAnswer} (record { answer = reading.Refused k at; things = th }) (refused_at k at)
-nobody_there k at th e = rw e
-
 module _ (h : Head) (s : List ℕ) where
-  abbrev head_read : Read ℕ Refusal ℕ
-  head_read = in_record s 8 (λ kind. old_head h) 0
+  abbrev its_things : Result Things Refused
+  its_things = things_of (old_content h s 0)
 
-  stopped : (k q : ℕ) → head_read ≡ fault (record { number = k; at = q }) → refused_at k q ≡ as_read (old_content h s 0)
-  unfolding old_content
-  stopped k q e = rw e
+  -- its front isn't there, or is of another kind
+  pub old_no_record : {r : Refused} → Err r ≡ record_result (record_at s 0 8) → Err r ≡ its_things
+  unfolding old_content in_record
+  old_no_record {r} e = go (record_at s 0 8) e
+    where
+      go : (a : RecordAnswer) → Err r ≡ record_result a → Err r ≡ things_of (bind (on_record s 0 (λ kind. old_head h) a) (λ count. rest h 65535 count s))
+      go (record_answer.Record kind start len) f = constructors_differ (cc)
+      go (record_answer.Refused k q) f = let same : r ≡ refused k q = cc in ap Err same
 
-  module _ (found : RecordAnswer) (ef : found ≡ record_at s 0 8) where
-    -- its front isn't there, or is of another kind
-    pub old_no_record : (k q v w : ℕ) → found ≡ Refused k q → v ≡ (of_record found).number → w ≡ record_place found → refused_at v w ≡ as_read (old_content h s 0)
-    old_no_record k q v w e ev ew =
-        let x : v ≡ k = ev ∙ ap (λ (r : RecordAnswer). (of_record r).number) e in
-        let y : w ≡ q = ew ∙ ap record_place e in
-        rw (x, y) (stopped k q (in_refused s 0 8 _ k q (sym ef ∙ e)))
+  module _ {r : Record} (found : Ok r ≡ record_result (record_at s 0 8)) {b : List ℕ} (eb : b ≡ part s r.start r.len) {m : Result ℕ Fault} (em : m ≡ value_of (whole (old_head h) b)) where
+    abbrev behind : ℕ
+    behind = r.start + r.len
 
-    module _ (kind at len : ℕ) (e : found ≡ Record kind at len) (b : List ℕ) (eb : b ≡ part s at len) (stated : Field) (es : stated ≡ as_field (whole (old_head h) b)) where
-      -- its body is at fault
-      pub old_no_head : (k v : ℕ) → stated ≡ Fault k → v ≡ (of_field stated).number → refused_at v 0 ≡ as_read (old_content h s 0)
-      old_no_head k v f ev =
-          let x : v ≡ k = ev ∙ ap (λ (r : Field). (of_field r).number) f in
-          let y : whole (old_head h) (part s at len) ≡ fault k = rw eb at (field_fault (whole (old_head h) b) k (sym es ∙ f)) in
-          rw x (stopped k 0 (rw y at (in_record_lem s 0 8 (λ kind. old_head h) kind at len (sym ef ∙ e))))
+    body_read : in_record s 8 (λ kind. old_head h) 0 ≡ on_body 0 behind (whole (old_head h) b)
+    body_read = rw eb (in_record_lem s 0 8 (λ kind. old_head h) r.kind r.start r.len (record_back (record_at s 0 8) (sym found)))
 
-      module _ (count : ℕ) (f : stated ≡ Value count) where
-        head_read_lem : head_read ≡ got count (at + len)
-        head_read_lem = go (whole (old_head h) (part s at len)) refl (rw eb at (sym es ∙ f))
-          where
-            go : (r : Read (List ℕ) ℕ ℕ) → whole (old_head h) (part s at len) ≡ r → as_field r ≡ Value count → head_read ≡ got count (at + len)
-            go (got v left) q z = let y : v ≡ count = cc in rw (q, y) at (in_record_lem s 0 8 (λ kind. old_head h) kind at len (sym ef ∙ e))
-            go (fault k) q z = constructors_differ (cc)
+    -- its body is at fault
+    pub old_no_head : {f : Refused} → Err f ≡ by_start m → Err f ≡ its_things
+    unfolding old_content
+    old_no_head {f} e = rw body_read (go (whole (old_head h) b) (e ∙ ap by_start em))
+      where
+        go : (w : Read (List ℕ) ℕ ℕ) → Err f ≡ by_start (value_of w) → Err f ≡ things_of (bind (on_body 0 behind w) (λ count. rest h 65535 count s))
+        go (got v left) g = constructors_differ (cc)
+        go (fault k) g = let same : f ≡ refused k 0 = cc in ap Err same
 
-        content : old_content h s 0 ≡ rest h 65535 count s (at + len)
-        unfolding old_content
-        content = rw head_read_lem
+    module _ {count : ℕ} (e : Ok count ≡ by_start m) where
+      head_read : in_record s 8 (λ kind. old_head h) 0 ≡ got count behind
+      head_read = body_read ∙ go (whole (old_head h) b) (e ∙ ap by_start em)
+        where
+          go : (w : Read (List ℕ) ℕ ℕ) → Ok count ≡ by_start (value_of w) → on_body 0 behind w ≡ got count behind
+          go (got v left) g = let same : v ≡ count = cc in rw same
+          go (fault k) g = constructors_differ (cc)
 
-        -- and then what stands behind it is read
-        pub old_read : T (accepted_head h) → Bytes s → (none : Things) → none ≡ no_things → (r : MatrixAnswer) (cells : List ℕ) →
-            ◌≡◌ {A = MatrixAnswer × List ℕ} (r, cells) (read_rest s (at + len) h 65535 count none (replicate 2304 0)) → r ≡ as_read (old_content h s 0)
-        old_read ok g none en r cells er =
-            let (a, few) = (old_head_record h (head_sized h ok) s).back 0 (at + len) count g head_read_lem in
-            let opened = rest_opened s (at + len) h 65535 count none (replicate 2304 0) (ok, few, stand_le a (omega arith), refl) in
-            ap (λ (x : MatrixAnswer × List ℕ). x.0) (er ∙ opened) ∙ rw (content, en) (go (rest h 65535 count s (at + len)))
-          where
-            go : (x : Read ℕ Refusal Matrix) → (as_matrix no_things (replicate 2304 0) x).0 ≡ as_read x
-            go (got m next) = refl
-            go (fault f) = refl
+      -- and then what stands behind it is read
+      pub old_opened : T (accepted_head h) → Bytes s → (none : Things) → read_rest s behind h 65535 count none (replicate 2304 0) ≡ as_matrix none (replicate 2304 0) (old_content h s 0)
+      unfolding old_content
+      old_opened ok g none =
+          let (a, few) = (old_head_record h (head_sized h ok) s).back 0 behind count g head_read in
+          rest_opened s behind h 65535 count none (replicate 2304 0) (ok, few, stand_le a (omega arith), refl) ∙ rw head_read
 
--- ---- the highest of a list, from the first on
-pub highest_none : (ids : List ℕ) → max 0 (highest_of (drop 0 ids)) ≡ highest_of ids
-highest_none ids = omega arith
-
-module _ (ids : List ℕ) (i highest k : ℕ) (e : max highest (highest_of (drop i ids)) ≡ k) where
-  pub highest_on : (new : ℕ) → highest < get_or ids i 0 → new ≡ get_or ids i 0 → i < length ids → max new (highest_of (drop (i + 1) ids)) ≡ k
-  unfolding highest_of
-  highest_on new up en l = omega (arith, en, rw (one_off ids i l) at e)
-
-  pub highest_stays : (new : ℕ) → get_or ids i 0 ≤ highest → new ≡ highest → i < length ids → max new (highest_of (drop (i + 1) ids)) ≡ k
-  unfolding highest_of
-  highest_stays new down en l = omega (arith, en, rw (one_off ids i l) at e)
-
-pub highest_all : (ids : List ℕ) (i highest n : ℕ) → max highest (highest_of (drop i ids)) ≡ highest_of ids → n ≤ i → length ids ≡ n → highest ≡ highest_of ids
+-- ---- the highest of a list
+fold_highest : (a : ℕ) (xs : List ℕ) → fold max a xs ≡ max a (highest_of xs)
 unfolding highest_of
-highest_all ids i highest n e l room = omega (arith, rw (none_left ids i (omega arith)) at e)
+fold_highest a [] = omega arith
+fold_highest a (x ∷ xs) = fold_highest (max a x) xs ∙ omega arith
+
+pub highest_reduced : (xs : List ℕ) → unwrap_or (reduce max xs) 0 ≡ highest_of xs
+unfolding highest_of
+highest_reduced [] = refl
+highest_reduced (x ∷ xs) = fold_highest x xs

@@ -1,17 +1,19 @@
 -- The answers of the functions: how long the image is that was written at the start of the lent buffer; or a refusal, which leaves that buffer as it was.
 -- Assumes nothing.
-use Rattle.std.specs.Prelude.{ℕ, List, [], ◌∷◌}
+use Rattle.std.specs.Prelude.{ℕ, List, [], ◌∷◌, Result, Ok, Err}
 use Rattle.model.specs.Accepted.{accepted_scheme}
 use Rattle.model.specs.declared.Scheme.{Scheme}
 use Rattle.records.specs.Reading.{Read, got, fault}
 use Rattle.records.specs.Front.{Refusal, against}
+use Rattle.records.specs.Results.{refused}
 use Rattle.records.specs.Writing.{write_bytes}
 use Rattle.records.specs.Told.{Told, told}
 use Rattle.records.specs.Outcome.Writing.{Writing}
 use Rattle.records.specs.Outcome.Writing as writing
+use Rattle.records.specs.declared.Refused as result
 use Rattle.moving.specs.Moves.{forward, back}
-use Rattle.moving.specs.declared.answers.Moved.{Moved}
-use Rattle.moving.specs.declared.answers.Moved.TheVariants.{Done, Refused}
+use Rattle.moving.specs.Outcome.Moved.{Moved}
+use Rattle.moving.specs.Outcome.Moved.{Done, Refused}
 
 -- 9 is at no position of the image
 abbrev pub after_writing : Writing → Moved
@@ -31,6 +33,14 @@ forward_into old s out = as_moved out (against (accepted_scheme s) (forward s.he
 
 unfoldable pub back_into : List ℕ → Scheme → List ℕ → Moved × List ℕ
 back_into new s out = as_moved out (against (accepted_scheme s) (back s.head new 0))
+
+-- what the functions give for it, with what the lent buffer then holds
+abbrev pub moved_result : Moved → Result ℕ result.Refused
+moved_result (Done n) = Ok n
+moved_result (Refused k at) = Err (refused k at)
+
+abbrev pub moved_into : Moved × List ℕ → Result ℕ result.Refused × List ℕ
+moved_into m = (moved_result m.0, m.1)
 
 -- what an answer tells: its number, 0 for success, and the length or the position
 abbrev pub of_moved : Moved → Told

@@ -12,8 +12,8 @@ use Rattle.matrix_bytes.specs.Answers.{read_matrix}
 use Rattle.matrix_bytes.specs.MatrixAnswer.{MatrixAnswer}
 use Rattle.moving.specs.Old.{old_matrix}
 use Rattle.moving.specs.Answers.{forward_into, back_into}
-use Rattle.moving.specs.declared.answers.Moved.{Moved}
-use Rattle.moving.specs.declared.answers.Moved.TheVariants.{Done}
+use Rattle.moving.specs.Outcome.Moved.{Moved}
+use Rattle.moving.specs.Outcome.Moved.{Done}
 
 pub record FunctionMoves : Type 0 where
   -- An old image was moved forward, and the answer was that the new one has n bytes. Then the old one holds a matrix, and the first n bytes of the buffer read as

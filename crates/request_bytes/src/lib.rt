@@ -7,7 +7,7 @@ mod write;
 pub use read::{read_request, skip_request};
 pub use write::write_request;
 
-// A command number and up to 8 ids, with zeros behind them.
+// A command number and up to 8 ids, with zeros behind them: an array and its count, since a library crate has no heap.
 #[derive(Clone, Copy, Debug, PartialEq, Eq)]
 pub struct Request {
     pub command: u8,

@@ -28,7 +28,7 @@ use Rattle.hold.specs.Marking.{as_marked}
 use Rattle.hold.specs.Outcome.Marked.{Marked}
 use Rattle.hold.specs.Outcome.Marking as marking
 use Rattle.hold.proofs.MarkLaws.{marked_refused, marked_done}
-use Rattle.moving.specs.declared.answers.Moved.{Moved}
+use Rattle.moving.specs.Outcome.Moved.{Moved}
 use Rattle.robot.specs.Library.{call, gives, gives_wrote, gives_ran, writing_by, wrote, moving_by, moved, after_scheme, with_scheme, after_matrix, with_matrix, not_written, marked_into, not_run}
 use Rattle.model.specs.Arrays.{no_scheme}
 use Rattle.matrix_bytes.proofs.ReadMatrix.{by_head}

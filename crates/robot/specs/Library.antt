@@ -23,8 +23,8 @@ use Rattle.engine.specs.List.{replies_to}
 use Rattle.hold.specs.Marking.{mark_thing}
 use Rattle.convert.specs.Convert.{convert_scheme_into, convert_matrix_into}
 use Rattle.moving.specs.Answers.{forward_into, back_into}
-use Rattle.moving.specs.declared.answers.Moved.{Moved}
-use Rattle.moving.specs.declared.answers.Moved.TheVariants as moving
+use Rattle.moving.specs.Outcome.Moved.{Moved}
+use Rattle.moving.specs.Outcome.Moved as moving
 use Rattle.model.specs.Arrays.{no_scheme}
 
 -- ---- what every function gives

@@ -135,9 +135,9 @@ good_head =
           }));
     }
 
-pub head_good : (s : List ℕ) {h : Head} {from : ℕ} → read_head s 0 ≡ Ok (h, from) → T (accepted_head h)
+pub head_good : (s : List ℕ) {h : Head} {from : ℕ} → Ok (h, from) ≡ read_head s 0 → T (accepted_head h)
 unfolding read_head
-head_good s e = go (head_at s 0) refl e
+head_good s e = go (head_at s 0) refl (sym e)
   where
     go : (m : Read ℕ Refusal Head) {h : Head} {from : ℕ} → head_at s 0 ≡ m → item_of m ≡ Ok (h, from) → T (accepted_head h)
     go (got x next) {h} {from} d f =

@@ -36,7 +36,7 @@ impl<'a> SchemeReader<'a> {
 }
 
 // The whole of an input as a scheme, into the table; where it is refused, the table stays as it is.
-#[tactic(auto, using(crate::proofs::ReadLaws::scheme_lines))]
+#[tactic(auto, using(crate::proofs::ReadLaws::scheme_lines, crate::proofs::ReadLaws::head_good))]
 pub fn read_scheme(s: &[u8], table: &mut Scheme) -> Result<usize, Refused>
     ensures { ◌≡◌ {A = Result ℕ Refused × Scheme} (result, table.new) (scheme_result (read_scheme s.now table.old)) }
 {

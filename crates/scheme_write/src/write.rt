@@ -18,6 +18,7 @@ use faults::Fault;
 use model::{Code, Command, Head, Operation, Scheme, Test};
 use rights::{Numbered, Parameter, Right, ThingType};
 
+// A function, since an impl of `From` for a type of `model` can stand only there.
 fn code_number(code: Code) -> u8
     ensures { result ≡ code_number code }
 {

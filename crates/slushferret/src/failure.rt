@@ -38,8 +38,8 @@ pub(crate) enum Failure<'a> {
 }
 
 impl Failure<'_> {
-    // Says or tells what wasn't yet, and gives the status. Where a refusal can't be said, that was told.
-    pub(crate) fn told(self, rt: &HostRuntime) -> ExitCode {
+    // Says or tells what wasn't yet, and gives the status. Where a refusal can't be said, that is told.
+    pub(crate) fn end(self, rt: &HostRuntime) -> ExitCode {
         match self {
             Failure::Told(Told) | Failure::BadList => {}
             Failure::Refused(refusal) => {

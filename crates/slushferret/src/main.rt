@@ -29,10 +29,10 @@ fn run<'a>(rt: &HostRuntime, words: &'a [Vec<u8>]) -> Result<(), Failure<'a>> {
 fn main(rt: HostRuntime) -> ExitCode {
     let words = match words::words(&rt) {
         Ok(words) => words,
-        Err(error) => return Failure::from(error).told(&rt),
+        Err(error) => return Failure::from(error).end(&rt),
     };
     match run(&rt, &words) {
         Ok(()) => ExitCode::SUCCESS,
-        Err(failure) => failure.told(&rt),
+        Err(failure) => failure.end(&rt),
     }
 }

@@ -30,8 +30,8 @@ impl<'a> Tables<'a> {
         file.refused(number, report.position)
     }
 
-    // What a function of the robots' library writes, which is given both files, room for the largest file, and a report. It is called in a closure: by its
-    // name alone a function of another crate can't be passed, since the toolchain doesn't find its contract.
+    // What a function of the robots' library writes, which is given both files, room for the largest file, and a report. It is called in a closure: by
+    // its name alone a function of another crate can't be passed, since the toolchain doesn't find its contract.
     pub(crate) fn made_by<F: FnOnce(&[u8], &[u8], &mut [u8], &mut [usize]) -> u8>(
         &self,
         rt: &HostRuntime,

@@ -2,22 +2,20 @@
 use crate::failure::Failure;
 use crate::input::Input;
 use crate::said::say;
-use model::{Head, Scheme, Things};
+use model::{Scheme, Things};
 use totals::Totals;
 
 fn check_scheme<'a>(rt: &HostRuntime, scheme: &Input<'a>) -> Result<Scheme, Failure<'a>> {
     let read = scheme_bytes::read_scheme(&scheme.bytes, scheme_bytes::no_scheme());
     scheme.accepted(read.answer).map_err(Failure::Refused)?;
     let name = scheme.name;
-    let Head {
-        rights,
-        types,
-        count,
-        ..
-    } = read.scheme.head;
+    let h = read.scheme.head;
     say(
         rt,
-        format_args!("{name}: a scheme of {rights} rights, {types} types, {count} commands"),
+        format_args!(
+            "{name}: a scheme of {} rights, {} types, {} commands",
+            h.rights, h.types, h.count
+        ),
     )?;
     Ok(read.scheme)
 }
@@ -52,10 +50,7 @@ pub(crate) fn check<'a>(
     matrix: Option<&'a [u8]>,
 ) -> Result<(), Failure<'a>> {
     let scheme = Input::load(rt, scheme)?;
-    let matrix = match matrix {
-        Some(matrix) => Some(Input::load(rt, matrix)?),
-        None => None,
-    };
+    let matrix = matrix.map(|matrix| Input::load(rt, matrix)).transpose()?;
     let s = check_scheme(rt, &scheme)?;
     match matrix {
         Some(matrix) => check_matrix(rt, s, &matrix),

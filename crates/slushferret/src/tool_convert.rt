@@ -18,6 +18,5 @@ pub(crate) fn convert<'a>(
     let (scheme, _) = tables.made_by(rt, |scheme, _, out, report| {
         robot::slushferret_convert_scheme(scheme, out, report)
     })?;
-    write_two(rt, (robot_scheme, &scheme), (robot_matrix, &matrix))?;
-    Ok(())
+    Ok(write_two(rt, (robot_scheme, &scheme), (robot_matrix, &matrix))?)
 }

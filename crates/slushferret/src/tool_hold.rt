@@ -34,8 +34,7 @@ fn mark<'a, F: FnOnce(&[u8], &[u8], u16, &mut [u8], &mut [usize]) -> u8>(
     let (after, _) = tables.made_by(rt, |scheme, matrix, after, report| {
         call(scheme, matrix, id, after, report)
     })?;
-    write_one(rt, words.out, &after)?;
-    Ok(())
+    Ok(write_one(rt, words.out, &after)?)
 }
 
 pub(crate) fn hold<'a>(rt: &HostRuntime, words: Marked<'a>) -> Result<(), Failure<'a>> {

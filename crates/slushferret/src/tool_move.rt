@@ -21,8 +21,7 @@ fn move_image<'a, F: FnOnce(&[u8], &[u8], &mut [u8], &mut [usize]) -> u8>(
 {
     let tables = Tables::load(rt, words.scheme, words.image)?;
     let (after, _) = tables.made_by(rt, call)?;
-    write_one(rt, words.out, &after)?;
-    Ok(())
+    Ok(write_one(rt, words.out, &after)?)
 }
 
 pub(crate) fn forward<'a>(rt: &HostRuntime, words: Moved<'a>) -> Result<(), Failure<'a>> {

@@ -7,7 +7,7 @@ use std::env::{Env, FillError};
 // No file has a longer name.
 const LONGEST_NAME: usize = 4096;
 
-// An output's name that is longer isn't compared with others: it counts as none.
+// An output's name that is longer counts as none where it is compared with other words; it is refused in its turn.
 const LONGEST_COMPARED: usize = 8192;
 
 // A word, as far as there is room for it.
@@ -19,7 +19,7 @@ fn word<'a>(rt: &HostRuntime, place: usize, room: &'a mut [u8]) -> Option<&'a [u
     }
 }
 
-// The words behind the program's own name, which may be any bytes; `std::env::args` refuses them all where one isn't text. Of a long one only so much is
+// The words behind the program's own name, which may be any bytes (`std::env::args` refuses them all where one isn't text). Of a long one only so much is
 // kept that its length shows.
 pub(crate) fn words(rt: &HostRuntime) -> Result<Vec<Vec<u8>>, AllocError> {
     let mut room = vec![in rt.alloc(); 0; LONGEST_COMPARED + 1]?;

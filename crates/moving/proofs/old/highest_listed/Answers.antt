@@ -1,21 +1,18 @@
--- `moving::old::highest_listed` meets its contract: the higher of what was met and of the ids still to come stays the highest of all.
+-- `moving::old::highest_listed` meets its contract: the greatest of the ids, or 0.
 -- Assumes nothing.
-use borrow.Author.Rules.{rules}
+use mathlib.Core.Path.{◌≡◌, sym, ◌∙◌}
+use Rattle.std.specs.List.{reduce}
+use Rattle.std.specs.Prelude.{max}
+use Rattle.std.proofs.lemmas.Iterator.Adapters.{option_map_id}
+use Rattle.std.proofs.lemmas.Iterator.{YieldsList-from_slice}
+use Rattle.std.proofs.lemmas.Iterator.Consumers.{YieldsList-from_copied, max_from_yields_List}
 use Rattle.moving.specs.Old.{highest_listed}
-use Rattle.moving.proofs.OldReads.{highest_none, highest_on, highest_stays, highest_all}
+use Rattle.moving.proofs.OldReads.{highest_reduced}
 use Rattle.moving.proofs.old.highest_listed.Goals as goal
-use Rattle.moving.proofs.old.highest_listed.Goals.{else-highest-x, then-highest-x}
-
-pub loop-i-init : goal.loop-i-init
-loop-i-init c = (search rules, highest_none _)
-
-pub loop-i-preserved : goal.loop-i-preserved
-loop-i-preserved c =
-    let l = c.loop-i in (
-      search rules,
-      (elim c.if-highest-x.branch [ then-highest-x w ↦ highest_on _ l.i _ _ l.invariant.1 _ w.if-highest-x.true w.highest-is (search rules) | else-highest-x w ↦ highest_stays _ l.i _ _ l.invariant.1 _ w.if-highest-x.false w.highest-is (search rules) ]),
-    )
 
 pub returns : goal.returns
 unfolding highest_listed
-returns c = let l = c.loop-i in highest_all _ l.i l.highest 48 l.invariant.1 c.loop-i-test.false (search rules)
+returns c =
+    let most : c.max.result ≡ reduce max c.args.th.ids =
+    sym (option_map_id _) ∙ max_from_yields_List c.copied.result _ c.max.ensures.ran (YieldsList-from_copied (YieldsList-from_slice c.args.th.ids cc)) in
+    c.unwrap_or.ensures ∙ rw most (highest_reduced c.args.th.ids)

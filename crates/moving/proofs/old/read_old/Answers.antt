@@ -1,25 +1,34 @@
 -- `moving::old::read_old` meets its contract: the head, and then what stands behind it, in a matrix that begins with no things.
 -- Assumes nothing.
-use mathlib.Core.Path.{sym, ◌∙◌}
+use mathlib.Core.Path.{sym, ap, ◌∙◌}
 use borrow.Author.Rules.{rules}
+use Rattle.std.proofs.lemmas.Result.{err_from_is_err_and}
 use Rattle.records.proofs.FrontLaws.{record_found}
-use Rattle.moving.proofs.OldReads.{old_no_record, old_no_head, old_read}
+use Rattle.records.proofs.ResultLaws.{record_back}
+use Rattle.matrix_bytes.specs.Answers.{matrix_result}
+use Rattle.moving.proofs.OldReads.{started, old_no_record, old_no_head, old_opened, not_kept, kept}
 use Rattle.moving.proofs.old.read_old.Goals as goal
 
-pub returns-in_default : goal.returns-in_default
-returns-in_default c =
-    c.refused.ensures ∙ old_no_record _ _ _ c.record_at-found.ensures _ _ _ _ c.in_default.is c.number.ensures c.at.ensures
+pub returns-in_err-start : goal.returns-in_err-start
+returns-in_err-start c =
+    let p = err_from_is_err_and c.from_residual.result c.from_residual.ensures.1 in
+    rw (p.1, p.2) (old_no_record _ _ c.in_err-start.ensures)
 
-pub returns-in_default-stated : goal.returns-in_default-stated
-returns-in_default-stated c =
-    c.refused-in_default-stated.ensures
-    ∙ old_no_head _ _ _ c.record_at-found.ensures _ _ _ c.in-Record.is _ c.body.ensures _ c.count_in-stated.ensures _ _ c.in_default-stated.is c.number-in_default-stated.ensures
+pub returns-in_err-count : goal.returns-in_err-count
+returns-in_err-count c =
+    let p = err_from_is_err_and c.from_residual-in_err-count.result c.from_residual-in_err-count.ensures.1 in
+    rw (p.1, p.2) (old_no_head _ _ c.in_ok-start.ensures c.body.ensures c.count_in.ensures (sym c.in_err-count.was ∙ started _ c.map_err.ensures.cases))
 
 pub overflow_add-start : goal.overflow_add-start
-overflow_add-start c =
-    let found = record_found _ _ _ _ _ _ (sym c.record_at-found.ensures ∙ c.in-Record.is) in search rules
+overflow_add-start c = let found = record_found _ _ _ _ _ _ (record_back _ (sym c.in_ok-start.ensures)) in search rules
+
+pub returns-in_err-read_rest : goal.returns-in_err-read_rest
+returns-in_err-read_rest c =
+    let p = err_from_is_err_and c.from_residual-in_err-read_rest.result c.from_residual-in_err-read_rest.ensures.1 in
+    let opened = old_opened _ _ c.in_ok-start.ensures c.body.ensures c.count_in.ensures (sym c.in_ok-count.was ∙ started _ c.map_err.ensures.cases) c.requires (λ i. (c.type_inv.image i).fits) c.no_things-th.result in
+    rw (p.1, p.2) (not_kept _ _ _ _ _ (c.in_err-read_rest.ensures ∙ ap matrix_result opened))
 
 pub returns : goal.returns
 returns c =
-    old_read _ _ _ c.record_at-found.ensures _ _ _ c.in-Record.is _ c.body.ensures _ c.count_in-stated.ensures _ c.in-Value.is
-    c.requires (λ i. (c.shared_slice_known-1.given i).fits) _ c.no_things.ensures _ _ c.read_rest.ensures
+    let opened = old_opened _ _ c.in_ok-start.ensures c.body.ensures c.count_in.ensures (sym c.in_ok-count.was ∙ started _ c.map_err.ensures.cases) c.requires (λ i. (c.type_inv.image i).fits) c.no_things-th.result in
+    kept _ _ _ _ _ (c.in_ok-read_rest.ensures ∙ ap matrix_result opened)
