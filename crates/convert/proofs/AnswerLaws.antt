@@ -182,7 +182,7 @@ module _ (s : Scheme) (m : Matrix) (copy : List ℕ) (same : copy ≡ m.cells) {
           let v = converts_if s g in
           rw (
             is_true (passes (head_fault (convert_scheme s).head)) (head_passes (convert_scheme s) (converts.scheme s t v).0),
-            is_true (accepted_matrix (convert_scheme s).head (convert_matrix s.head m)) (converts.matrix s t m v u),
+            is_true (accepted_matrix (convert_scheme s).head (convert_matrix s.head m)) (converts.matrix s m t v u),
             f,
           )
 

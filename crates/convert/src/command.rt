@@ -11,6 +11,7 @@ use rights::{Parameter, Right};
 // ---- its tests
 
 // "r absent" becomes "partner present"; "r present" stays.
+#[tactic(auto, unfolding(conversion::specs::Conversion::convert_test))]
 fn convert_test(n: u8, t: Test) -> Test
     ensures { result ≡ convert_test n t }
 {
@@ -43,11 +44,11 @@ fn convert_tests(n: u8, t: Tests) -> Tests
 
 // Whether none of them creates or destroys.
 pub(crate) fn keep_things(o: Operations) -> bool
-    requires { o.count ≤ 32 }
     ensures { result ≡ keeps_all (operations_of o) }
 {
-    o.list[..o.count as usize]
+    o.list
         .iter()
+        .take(o.count as usize)
         .all(|one| matches!(one.code, Code::Enter | Code::Delete))
 }
 
@@ -63,6 +64,7 @@ fn opposite(c: Code) -> Code
     }
 }
 
+#[tactic(auto, unfolding(conversion::specs::Conversion::on_partner))]
 fn on_partner(n: u8, o: Operation) -> Operation
     ensures { result ≡ on_partner n (opposite_of o.code) o }
 {

@@ -18,27 +18,27 @@ use rights::Right;
 // ---- what refuses it
 
 fn all_keep_things(s: Scheme) -> bool
-    requires { T (accepted_scheme s) }
     ensures { result ≡ all (λ c. keeps_all (operations_of c.operations)) (commands_of s) }
 {
-    s.commands[..s.head.count as usize]
+    s.commands
         .iter()
+        .take(s.head.count as usize)
         .all(|c| keep_things(c.operations))
 }
 
 // Whether each command has room for twice its operations.
 fn all_fit(s: Scheme) -> bool
-    requires { T (accepted_scheme s) }
     ensures { result ≡ all (λ c. leb c.operations.count 16) (commands_of s) }
 {
-    s.commands[..s.head.count as usize]
+    s.commands
         .iter()
+        .take(s.head.count as usize)
         .all(|c| c.operations.count <= Operations::LIMIT / 2)
 }
 
 // 20, then 21, then 22, each over all of the scheme.
+#[tactic(auto, using(accepted::proofs::SchemeLaws::checks, std::proofs::lemmas::Bool::Decides::nat_tests), unfolding(conversion::specs::Conversion::conversion_fault, faults::specs::Numbers::fault_of))]
 pub(crate) fn conversion_fault(s: Scheme) -> Result<(), Fault>
-    requires { T (accepted_scheme s) }
     ensures { result ≡ as_checked (conversion_fault s) }
 {
     if !all_keep_things(s) {
