@@ -24,7 +24,7 @@ fn carry_out(c: Command, th: &mut Things, cells: &mut [u64], ids: &[u16]) -> Res
             place: 0,
         });
     }
-    let spots = locate(*th, c.parameters, c.operations, ids)?;
+    let spots = locate(th, c.parameters, c.operations, ids)?;
     test_all(cells, spots, c.tests)?;
     let plan = plan_all(*th, spots, c.parameters, ids, c.operations)?;
     change_all(cells, plan.spots, c.operations);

@@ -79,7 +79,7 @@ module _ (plan : Plan) (place x : ℕ) (p : Parameter) (i : ℕ) (sits : i ≡ s
 -- what an answer says of the plan behind it
 planned : (plan next : Plan) (q : Outcome Plan) → ◌≡◌ {A = Result (Unit {0}) Refusal × Plan} (Ok tt, next) (changed plan q) → q ≡ done next
 unfolding answer after
-planned plan next (done p) e = cc (ap (λ z. z.0) e, ap (λ z. z.1) e)
+planned plan next (done p) e = cc (ap (λ z. z.1) e)
 planned plan next (refused k) e = cc (ap (λ z. z.0) e)
 
 stopped : (plan next : Plan) (k : Refusal) (q : Outcome Plan) → ◌≡◌ {A = Result (Unit {0}) Refusal × Plan} (Err k, next) (changed plan q) → q ≡ refused k

@@ -44,8 +44,8 @@ fn spot_at(seat: u8, of: ThingType, mark: bool, t: ThingType) -> Result<u8, Refu
 }
 
 // The seat of one place's id; a new parameter has none yet, which is told as 0.
-fn spot_of(th: Things, new: bool, t: ThingType, x: u16) -> Result<u8, Refusal>
-    ensures { result ≡ spot_of th new t x }
+fn spot_of(th: &Things, new: bool, t: ThingType, x: u16) -> Result<u8, Refusal>
+    ensures { result ≡ spot_of th.now new t x }
 {
     if x == 0 {
         return Err(Refusal {
@@ -66,14 +66,15 @@ fn spot_of(th: Things, new: bool, t: ThingType, x: u16) -> Result<u8, Refusal>
     spot_at(i as u8, th.types[i], th.marks[i], t)
 }
 
-// The parameters' seats, or the first fault of their ids: as many places as there are parameters and ids.
+// The parameters' seats, or the first fault of their ids: as many places as there are parameters and ids. The things are lent: measured, a copy of them
+// for each place is what most requests would take longest with.
 pub fn locate(
-    th: Things,
+    th: &Things,
     p: Parameters,
     o: Operations,
     ids: &[u16],
 ) -> Result<[u8; Parameters::PLACES], Refusal>
-    ensures { result ≡ located th (operations_of o) (parameters_of p) ids.now }
+    ensures { result ≡ located th.now (operations_of o) (parameters_of p) ids.now }
 {
     let n = (p.count as usize).min(Parameters::PLACES).min(ids.len());
     let mut spots = [0u8; Parameters::PLACES];

@@ -18,7 +18,7 @@ loop-i-init c =
     let room : length a.p.types ≡ 8 = search (rules, long) in (
       refl,
       start 8 room (omega arith)
-          (ap (located_from a.th (operations_of a.o) a.ids.now no_spots 0) (take_least a.p.types 8 a.p.count room)),
+          (ap (located_from a.th.now (operations_of a.o) a.ids.now no_spots 0) (take_least a.p.types 8 a.p.count room)),
     )
 
 pub returns-in_err-spots : goal.returns-in_err-spots

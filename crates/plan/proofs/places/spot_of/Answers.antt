@@ -12,9 +12,9 @@ returns-then-new c = spot_new _ _ _ _ c.if-x-eq0.false c.ranges.x c.if-new.true
 
 pub returns-then-i-ge-LIMIT : goal.returns-then-i-ge-LIMIT
 returns-then-i-ge-LIMIT c =
-    spot_unknown c.args.th _ _ _ c.if-x-eq0.false c.ranges.x c.if-new.false (search rules) _ c.seat_of-i.ensures c.if-i-ge-LIMIT.true
+    spot_unknown c.args.th.now _ _ _ c.if-x-eq0.false c.ranges.x c.if-new.false (search rules) _ c.seat_of-i.ensures c.if-i-ge-LIMIT.true
 
 pub returns : goal.returns
 returns c =
     c.spot_at.ensures
-    ∙ spot_there c.args.th _ _ _ c.if-x-eq0.false c.ranges.x c.if-new.false (search rules) _ c.seat_of-i.ensures c.if-i-ge-LIMIT.false
+    ∙ spot_there c.args.th.now _ _ _ c.if-x-eq0.false c.ranges.x c.if-new.false (search rules) _ c.seat_of-i.ensures c.if-i-ge-LIMIT.false
