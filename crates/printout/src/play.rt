@@ -48,7 +48,7 @@ fn put_answer<'a>(
     }
 }
 
-// A line for each request of a list, with its reply, and one for a record that can't be read.
+// A line for each request of a list, with its reply, and one for a record that can't be read. A loop, since a reading gives the next one's position.
 fn put_requests(out: &mut [u8], at: usize, columns: Columns, bytes: &[u8], replies: &[u8]) -> usize
     ensures { ◌≡◌ {A = ℕ × List ℕ} (result, out.new) (put_text out.old at (list_text columns 0 (read_list bytes.now) (replies_in replies.now))) }
 {

@@ -1,4 +1,4 @@
-// The words of the printout around its numbers.
+// The words of the printout around its numbers. The buffer and the position are apart, since `lines`, whose contracts may not change, takes them so.
 ghost use Rattle.std.specs.Prelude.{ℕ, ◌≡◌, List};
 ghost use Rattle.faults.specs.Numbers.{number_of};
 ghost use Rattle.lines.specs.Put.{put_text};
@@ -17,6 +17,7 @@ pub enum Columns {
     ToSteps,
 }
 
+#[tactic(auto, unfolding(crate::specs::Text::heading))]
 pub(crate) fn put_heading(out: &mut [u8], columns: Columns) -> usize
     ensures { ◌≡◌ {A = ℕ × List ℕ} (result, out.new) (put_text out.old 0 (heading columns)) }
 {
