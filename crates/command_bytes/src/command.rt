@@ -1,5 +1,5 @@
 // A command from its record: its three lists, and the body's end.
-ghost use Rattle.std.specs.Prelude.{◌≡◌, ◌≤◌, drop};
+ghost use Rattle.std.specs.Prelude.{◌≡◌};
 ghost use Rattle.records.specs.Reading.{whole};
 ghost use Rattle.records.specs.Results.{value_of};
 ghost use Rattle.command_bytes.specs.Read.{command};

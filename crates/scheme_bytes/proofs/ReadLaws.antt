@@ -1,17 +1,17 @@
 -- What the proofs of the functions in `read` and `reader` share: the lines of a scheme as a function with `?` follows them, and that a head that was read
 -- is accepted. Assumes nothing.
-use Prim.Native.Nat.{ℕ, ◌-◌, ◌<◌, ◌≤◌}
+use Prim.Native.Nat.{ℕ, ◌-◌, ◌<◌}
 use native.Mathlib.Omega.{arith}
-use mathlib.Core.Bool.{Bool, true, false, cond, ◌&&◌}
+use mathlib.Core.Bool.{Bool, true, false, cond}
 use mathlib.Core.List.{List, ◌++◌}
 use mathlib.Core.Path.{◌≡◌, refl, sym, ap, ◌∙◌}
-use lib.Dec.{T, leb, ltb, eqb, leb→le, ltb→lt}
+use lib.Dec.{T, eqb}
 use lib.ListN.{length, replicate}
 use Rattle.std.specs.Prelude.{Result, Ok, Err}
 use Rattle.faults.specs.Numbers.{fault_of}
 use Rattle.faults.specs.declared.Fault.TheVariants.{Leftover}
 use Rattle.rights.specs.Sets.{within}
-use Rattle.laws.proofs.Bools.{is_true, and_left, and_right}
+use Rattle.laws.proofs.Bools.{is_true}
 use Rattle.laws.proofs.Differ.{constructors_differ}
 use Rattle.model.specs.Arrays.{no_command, scheme_of}
 use Rattle.model.specs.Accepted.{accepted_head}
@@ -20,9 +20,10 @@ use Rattle.model.specs.declared.Head.{Head}
 use Rattle.model.specs.declared.Scheme.{Scheme}
 use Rattle.records.specs.Bytes.{part}
 use Rattle.records.specs.Front.{Refusal}
-use Rattle.records.specs.Reading.{Read, got, fault, Body, bind, done, check, field, ◌>>=◌, ◌>>◌, byte, number}
-use Rattle.records.specs.Results.{refused, item_of}
+use Rattle.records.specs.Reading.{Read, got, fault, Body, bind, done, check, field, ◌>>=◌, ◌>>◌, number}
+use Rattle.records.specs.Results.{refused, value_of, item_of}
 use Rattle.records.specs.declared.Refused.{Refused}
+use Rattle.records.proofs.FieldLaws.{field_between}
 use Rattle.records.proofs.Loop.{Looped, looped_stop}
 use Rattle.records.proofs.Trip.{bind_got, check_got, got_value}
 use Rattle.records.proofs.TripRecord.{in_record_back}
@@ -100,16 +101,6 @@ scheme_lines s table = go (head_at s 0)
     go (fault f) = refl
 
 -- ---- a head that was read is accepted
-field_in : (low limit k : ℕ) (r : List ℕ) {v : ℕ} {t : List ℕ} → field low limit k r ≡ got v t → (low ≤ v) × (v < limit)
-unfolding field
-field_in low limit k r {v} e =
-    let m = bind_got (byte r) (λ v. check (leb low v && ltb v limit) k >> done v) e in
-    let d = bind_got (check (leb low m.0 && ltb m.0 limit) k m.1) (λ u. done m.0) m.3 in
-    let t = (check_got (leb low m.0 && ltb m.0 limit) k m.1 d.2).0 in
-    let a = and_left (leb low m.0) (ltb m.0 limit) t in
-    let b = and_right (leb low m.0) (ltb m.0 limit) t in
-    rw (← (got_value d.3)) (leb→le low m.0 a, ltb→lt m.0 limit b)
-
 record Gives {A : Type 0} (P : A → Type 0) (p : Body A) : Type 0 where
   shown : (r : List ℕ) {a : A} {s : List ℕ} → p r ≡ got a s → P a
 
@@ -124,9 +115,9 @@ good_head =
     gives_then (number 2) λ s f g es. gives_then (check (within m s) 6) λ u i j eu. record {
       shown = λ r e.
           let last = bind_got (field 1 33 4 r) (λ c. done (record { rights = n; types = m; subjects = record { 0 = s }; count = c })) e in
-          let rights = field_in 1 65 4 a en in
-          let types = field_in 1 17 4 c em in
-          let count = field_in 1 33 4 r last.2 in
+          let rights = field_between a 1 65 4 n (ap value_of en) in
+          let types = field_between c 1 17 4 m (ap value_of em) in
+          let count = field_between r 1 33 4 last.0 (ap value_of last.2) in
           rw (← (got_value last.3)) (fits_head _ (record {
             rights = omega arith;
             types = omega arith;
