@@ -31,9 +31,9 @@ unfolding must
 of_must true k = refl
 of_must false k = refl
 
-fine : (f : Fault) → Ok tt ≡ as_checked f → f ≡ none
-fine none e = refl
-fine (some k) e = cc
+pub told_fine : (f : Fault) → Ok tt ≡ as_checked f → f ≡ none
+told_fine none e = refl
+told_fine (some k) e = cc
 
 pub ruleset checks = (in_turn, of_must)
 
@@ -51,7 +51,7 @@ module _ {A : Type 0} (F : List A → Fault) (xs : List A) (i : ℕ) (w : Fault)
 
     pub on : r ≡ Ok tt → G (drop (i + 1) xs) ≡ w
     unfolding ◌or_else◌
-    on e = sym (turn ∙ rw (fine g (sym e ∙ told)))
+    on e = sym (turn ∙ rw (told_fine g (sym e ∙ told)))
 
     pub out : (e : FaultNamed) → r ≡ Err e → as_checked w ≡ r
     out e f = rw (turn, in_turn, ← told, f)

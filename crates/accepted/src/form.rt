@@ -53,29 +53,20 @@ pub fn last_group(o: Operations, n: usize) -> u8
     }
 }
 
-// Whether a create of the parameter may stand behind these tests and the first n operations.
+// Whether a create of the parameter may stand behind these tests and the first n operations. No early exit: LLVM looks at many places at once then.
 pub fn creatable(t: Tests, o: Operations, n: usize, p: Parameter) -> bool
     ensures { result ≡ creatable (tests_of t) (before o n) p }
 {
-    let tested = t
-        .list
-        .iter()
-        .take(t.count as usize)
-        .any(|one| one.row.is(p) | one.column.is(p));
-    let created = o
-        .list
-        .iter()
-        .take(n)
-        .any(|one| is_create(one.code) & one.row.is(p));
-    !tested & !created
+    let tests = &t.list[..Tests::PLACES.min(t.count as usize)];
+    let before = &o.list[..Operations::PLACES.min(n)];
+    tests.iter().fold(true, |none, one| none & !(one.row.is(p) | one.column.is(p)))
+        & before.iter().fold(true, |none, one| none & !(is_create(one.code) & one.row.is(p)))
 }
 
 // Whether a destroy of the parameter may stand behind the first n operations.
 pub fn destroyable(o: Operations, n: usize, p: Parameter) -> bool
     ensures { result ≡ destroyable (before o n) p }
 {
-    !o.list
-        .iter()
-        .take(n)
-        .any(|one| matches!(one.code, Code::Destroy) & one.row.is(p))
+    let before = &o.list[..Operations::PLACES.min(n)];
+    before.iter().fold(true, |none, one| none & !(matches!(one.code, Code::Destroy) & one.row.is(p)))
 }

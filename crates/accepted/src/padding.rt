@@ -3,7 +3,7 @@
 ghost use Rattle.std.specs.Prelude.{◌≡◌};
 ghost use Rattle.model.specs.Accepted.{zero_test, zero_operation, padded_command, zero_command};
 
-use model::{Code, Command, Operation, Test};
+use model::{Code, Command, Operation, Operations, Parameters, Test, Tests};
 use rights::Numbered;
 
 #[tactic(auto, unfolding(model::specs::Accepted::zero_test))]
@@ -24,24 +24,14 @@ pub(crate) fn padded_command(c: Command) -> bool
     ensures { result ≡ padded_command c }
 {
     let p = c.parameters;
-    let types = p
-        .types
-        .iter()
-        .skip(p.count as usize)
-        .fold(true, |zero, one| zero & one.is_zero());
+    let types = &p.types[Parameters::PLACES.min(p.count as usize)..];
     let t = c.tests;
-    let tests = t
-        .list
-        .iter()
-        .skip(t.count as usize)
-        .fold(true, |zero, one| zero & zero_test(*one));
+    let tests = &t.list[Tests::PLACES.min(t.count as usize)..];
     let o = c.operations;
-    let operations = o
-        .list
-        .iter()
-        .skip(o.count as usize)
-        .fold(true, |zero, one| zero & zero_operation(*one));
-    types & tests & operations
+    let operations = &o.list[Operations::PLACES.min(o.count as usize)..];
+    types.iter().fold(true, |zero, one| zero & one.is_zero())
+        & tests.iter().fold(true, |zero, one| zero & zero_test(*one))
+        & operations.iter().fold(true, |zero, one| zero & zero_operation(*one))
 }
 
 // A command of zeros uses none of its places.

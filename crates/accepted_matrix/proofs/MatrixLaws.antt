@@ -6,7 +6,6 @@ use mathlib.Core.Logic.{◌≢◌}
 use mathlib.Core.Bool.{Bool, true, false, not, cond, ◌&&◌, ◌||◌, and-true, and_assoc}
 use mathlib.Core.List.{List, [], ◌∷◌}
 use native.Mathlib.Nat.{not-suc-le-zero, le_of_suc-le-suc}
-use native.Mathlib.Decide.{dec_lt}
 use native.Mathlib.Numerals.{add-one}
 use native.Mathlib.Omega.{arith}
 use lib.Dec.{T, eqb, eqb_refl, not_T}
@@ -16,13 +15,16 @@ use lib.Pow.{pow_pos}
 use borrow.Author.Tests.{lt-ltb, eqb-true, eqb-false, ne_eqb}
 use Rattle.rights.specs.Sets.{within}
 use Rattle.laws.proofs.Bools.{is_true, is_false, and_right, and_both}
-use Rattle.laws.proofs.Walks.{Walk, start, on, end}
+use Rattle.laws.proofs.Walks.{Walk, start, on, end, long}
 use Rattle.model.specs.Seats.{among, find, thing_in}
 use Rattle.model.specs.Accepted.{apart, accepted_seat, all_from, standing, accepted_places}
 use Rattle.model.specs.declared.Head.{Head}
 use Rattle.model.specs.declared.Things.{Things}
 use Rattle.model.proofs.Find.{find_lt, find_is, among_get}
 use Rattle.model.proofs.HeldLaws.{first_apart}
+
+-- ---- an array of structs stands in what is known as `map` of its elements
+pub ruleset arrays = long
 
 -- ---- the ids: no two are one exactly if each that isn't 0 is found at its own seat
 abbrev pub Once : List ℕ → ℕ → Type 0
@@ -66,20 +68,6 @@ abbrev pub OnceTo : List ℕ → ℕ → Type 0
 OnceTo ids i = (j : ℕ) → j < i → Once ids j
 
 module _ (ids : List ℕ) (i : ℕ) where
-  module _ (f : OnceTo ids i) where
-    once_on : Once ids i → OnceTo ids (i + 1)
-    once_on o j h = by (dec_lt j i)
-      where
-        by : Dec (j < i) → Once ids j
-        by (yes l) = f j l
-        by (no l) = let e : j ≡ i = omega (arith, l) in rw e o
-
-    pub once_free : get_or ids i 0 ≡ 0 → OnceTo ids (i + 1)
-    once_free e = once_on (λ n. absurd (n e))
-
-    pub once_found : find ids (get_or ids i 0) ≡ i → OnceTo ids (i + 1)
-    once_found e = once_on (λ n. e)
-
   module _ (full : length ids ≡ 48) where
     pub once_out : i < 48 → get_or ids i 0 ≢ 0 → find ids (get_or ids i 0) ≢ i → false ≡ apart ids
     once_out h n m = sym (is_false (apart ids) (λ t. m (apart_once ids t i (omega arith) n)))

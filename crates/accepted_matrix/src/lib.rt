@@ -14,15 +14,10 @@ use things::seat_of;
 fn ids_apart(ids: [u16; Things::LIMIT]) -> bool
     ensures { result ≡ apart ids }
 {
-    let mut i: usize = 0;
-    while i < Things::LIMIT {
-        let x = ids[i];
-        if x != 0 {
-            if seat_of(ids, x) != i {
-                return false;
-            }
+    for (i, x) in ids.iter().enumerate() {
+        if *x != 0 && seat_of(ids, *x) != i {
+            return false;
         }
-        i += 1;
     }
     true
 }
@@ -42,14 +37,13 @@ fn seats_accepted(h: Head, th: Things) -> bool
     ensures { result ≡ all_from (λ i. accepted_seat h th (get_or th.ids i 0) (thing_in th i)) 0 48 }
 {
     let mut fine = true;
-    let mut i: usize = 0;
-    while i < Things::LIMIT {
+    for i in 0..Things::LIMIT {
         fine = fine & seat_accepted(h, th.highest, th.ids[i], th.types[i], th.marks[i]);
-        i += 1;
     }
     fine
 }
 
+#[tactic(auto, using(crate::proofs::MatrixLaws::arrays), unfolding(model::specs::Accepted::accepted_things))]
 pub fn things_accepted(h: Head, th: Things) -> bool
     ensures { result ≡ accepted_things h th }
 {
@@ -58,6 +52,7 @@ pub fn things_accepted(h: Head, th: Things) -> bool
 }
 
 // Whether there is a cell at these seats.
+#[tactic(auto, unfolding(model::specs::Accepted::standing, model::specs::Scheme::is_subject))]
 fn is_standing(h: Head, th: Things, i: usize, j: usize) -> bool
     requires { (i < 48) × (j < 48) }
     ensures { result ≡ standing h th i j }
@@ -71,19 +66,17 @@ fn places_accepted(h: Head, th: Things, cells: &[u64]) -> bool
     ensures { result ≡ accepted_places h th 0 cells.now }
 {
     let mut fine = true;
-    let mut k: usize = 0;
-    while k < Things::CELLS {
-        let c = cells[k];
-        if c != 0 {
+    for (k, c) in cells.iter().enumerate() {
+        if *c != 0 {
             fine = fine
                 & is_standing(h, th, k / Things::LIMIT, k % Things::LIMIT)
-                & RightSet(c).within(h.rights);
+                & RightSet(*c).within(h.rights);
         }
-        k += 1;
     }
     fine
 }
 
+#[tactic(auto, unfolding(model::specs::Accepted::accepted_matrix))]
 pub fn matrix_accepted(h: Head, th: Things, cells: &[u64]) -> bool
     ensures { result ≡ accepted_matrix h (matrix_of th cells.now) }
 {

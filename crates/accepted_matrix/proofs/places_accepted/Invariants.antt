@@ -1,10 +1,6 @@
 -- The walk over the places carries along whether all were accepted.
-use Prim.Native.Nat.{◌-◌}
 use Rattle.accepted_matrix.proofs.MatrixLaws.{Places}
 use Rattle.accepted_matrix.proofs.places_accepted.Given as goal
 
 abbrev pub invariant-loop-k : goal.invariant-loop-k
 invariant-loop-k l = Places l.h l.th l.cells l.fine l.k
-
-abbrev pub decreases-loop-k : goal.decreases-loop-k
-decreases-loop-k l = 2304 - l.k

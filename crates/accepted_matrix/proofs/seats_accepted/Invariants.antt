@@ -1,10 +1,6 @@
 -- The walk over the seats carries along whether all were accepted.
-use Prim.Native.Nat.{◌-◌}
 use Rattle.accepted_matrix.proofs.MatrixLaws.{seat_fine, Seats}
 use Rattle.accepted_matrix.proofs.seats_accepted.Given as goal
 
 abbrev pub invariant-loop-i : goal.invariant-loop-i
 invariant-loop-i l = Seats (seat_fine l.h l.th) l.fine l.i
-
-abbrev pub decreases-loop-i : goal.decreases-loop-i
-decreases-loop-i l = 48 - l.i
