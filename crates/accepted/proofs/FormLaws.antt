@@ -85,12 +85,6 @@ pub zeros : {A : Type 0} (zero? : A → Bool) (many count : ℕ) (l : List A) (r
 unfolding padded
 zeros zero? many count l r e h = h ∙ so_far zero? true (drop (min many count) l) ∙ rw (drop_least l many count e, eq-eqb (length l) many e)
 
--- ---- the places in use, and those behind them
-pub used_then_zeros : {A : Type 0} (f zero? : A → Bool) (many count : ℕ) (l : List A) → length l ≡ many → (r s : Bool)
-    → r ≡ list_all f (take count l) → s ≡ list_all zero? (drop count l) → (r && s) ≡ (all f (take count l) && padded zero? many count l)
-unfolding padded
-used_then_zeros f zero? many count l e r s g h = rw (g, h, all_is, all_is, eq-eqb (length l) many e)
-
 -- ---- the first fault, where all have the same
 pub same_fault : {A : Type 0} (f : A → Bool) (k : ℕ) (l : List A) → first_fault (λ x. must (f x) k) l ≡ must (list_all f l) k
 unfolding must first_fault ◌or_else◌

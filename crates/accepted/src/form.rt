@@ -60,7 +60,10 @@ pub fn creatable(t: Tests, o: Operations, n: usize, p: Parameter) -> bool
     let tests = &t.list[..Tests::PLACES.min(t.count as usize)];
     let before = &o.list[..Operations::PLACES.min(n)];
     tests.iter().fold(true, |none, one| none & !(one.row.is(p) | one.column.is(p)))
-        & before.iter().fold(true, |none, one| none & !(is_create(one.code) & one.row.is(p)))
+        & before.iter().fold(
+            true,
+            |none, one| none & !(is_create(one.code) & one.row.is(p)),
+        )
 }
 
 // Whether a destroy of the parameter may stand behind the first n operations.
@@ -68,5 +71,8 @@ pub fn destroyable(o: Operations, n: usize, p: Parameter) -> bool
     ensures { result ≡ destroyable (before o n) p }
 {
     let before = &o.list[..Operations::PLACES.min(n)];
-    before.iter().fold(true, |none, one| none & !(matches!(one.code, Code::Destroy) & one.row.is(p)))
+    before.iter().fold(
+        true,
+        |none, one| none & !(matches!(one.code, Code::Destroy) & one.row.is(p)),
+    )
 }

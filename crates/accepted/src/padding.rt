@@ -31,7 +31,9 @@ pub(crate) fn padded_command(c: Command) -> bool
     let operations = &o.list[Operations::PLACES.min(o.count as usize)..];
     types.iter().fold(true, |zero, one| zero & one.is_zero())
         & tests.iter().fold(true, |zero, one| zero & zero_test(*one))
-        & operations.iter().fold(true, |zero, one| zero & zero_operation(*one))
+        & operations
+            .iter()
+            .fold(true, |zero, one| zero & zero_operation(*one))
 }
 
 // A command of zeros uses none of its places.
