@@ -2,7 +2,7 @@
 // buffer (8), a position (8); then the label and the bytes.
 ghost use Rattle.std.specs.Prelude.{◌≤◌};
 
-use crate::asked::Asked;
+use crate::given::{Asked, Numbers};
 
 // Bytes, with the fields that stand in them; a field is 0 where they have ended.
 #[derive(Clone, Copy)]
@@ -45,12 +45,12 @@ impl<'a> Bytes<'a> {
         }
     }
 
-    // Up to four numbers of eight bytes: all that can stand there, and how many do.
-    pub(crate) fn numbers(self) -> ([u64; 4], usize) {
-        (
-            std::array::from_fn(|i| self.eight_at(8 * i)),
-            self.0.len() / 8 % 5,
-        )
+    // Up to four numbers of eight bytes.
+    pub(crate) fn numbers(self) -> Numbers {
+        Numbers {
+            list: std::array::from_fn(|i| self.eight_at(8 * i)),
+            count: self.0.len() / 8 % (Numbers::MOST + 1),
+        }
     }
 }
 
@@ -70,11 +70,7 @@ impl<'a> Case<'a> {
             cells: all.two_at(4) as usize,
             room: all.eight_at(6) as usize,
             at: all.eight_at(14) as usize,
-            bytes: Bytes(records::body(
-                input,
-                Case::FRONT + label,
-                all.two_at(2) as usize,
-            )),
+            bytes: Bytes(records::body(input, Case::FRONT + label, all.two_at(2) as usize)),
         }
     }
 }

@@ -42,11 +42,7 @@ fn seats(line: &mut Line, n: usize, x: u16, th: &Things) {
 
 fn mark(line: &mut Line, b: Bytes, lent: &Lent) {
     let mut copy = *lent.things;
-    line.tell(hold::mark_thing(
-        &mut copy,
-        b.two_at(0),
-        b.one_at(2) == 1,
-    ));
+    line.tell(hold::mark_thing(&mut copy, b.two_at(0), b.one_at(2) == 1));
     line.tell(sum::matrix(&copy, lent.cells));
 }
 

@@ -2,10 +2,10 @@
 // makes the cases and what must be printed, so a difference is an error in one of the two.
 #![tactic(auto)]
 
-mod asked;
 mod case;
 mod checks;
 mod fields;
+mod given;
 mod input;
 mod lent;
 mod matrices;

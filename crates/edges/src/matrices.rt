@@ -8,9 +8,8 @@ use rights::ThingType;
 
 // To the cells from a place on.
 fn copy(b: Bytes, at: usize, cells: &mut [u64]) {
-    let (from, n) = b.numbers();
     let k = at.min(cells.len());
-    things::copy_cells(&mut cells[k..], &from[..n]);
+    things::copy_cells(&mut cells[k..], b.numbers().list());
 }
 
 fn put_thing(b: Bytes, at: usize, th: &mut Things) {

@@ -8,13 +8,14 @@ use faults::Fault;
 fn write(task: u8, lent: &mut Lent) -> Result<usize, Fault> {
     let s = *lent.scheme;
     let th = *lent.things;
+    let cells = &mut *lent.cells;
     let out = &mut *lent.out;
     match task {
         30 => scheme_write::write_scheme(out, s),
         31 => convert::convert_scheme(out, s),
-        32 => matrix_write::write_matrix(out, s, th, lent.cells),
-        33 => matrix_write::write_matrix_by_head(out, s.head, th, lent.cells),
-        _ => convert::convert_matrix(out, s, th, lent.cells),
+        32 => matrix_write::write_matrix(out, s, th, cells),
+        33 => matrix_write::write_matrix_by_head(out, s.head, th, cells),
+        _ => convert::convert_matrix(out, s, th, cells),
     }
 }
 

@@ -28,7 +28,11 @@ pub(crate) fn task(line: &mut Line, b: Bytes, at: usize, s: &Scheme, th: &mut Th
     let command = values::command_at(s, asked.command as usize);
     let parameters = command.parameters;
     let operations = command.operations;
-    told(line, plan::locate(*th, parameters, operations, asked.ids()), at);
+    told(
+        line,
+        plan::locate(*th, parameters, operations, asked.ids()),
+        at,
+    );
     let planned = plan::plan_all(*th, spots(b), parameters, asked.ids(), operations);
     told(line, planned.map(|plan| plan.spots), at);
     if let Ok(plan) = planned {

@@ -40,7 +40,10 @@ pub(crate) fn task(line: &mut Line, case: Case, lent: &mut Lent) {
     match case.task {
         20 => request(line, b, lent),
         21 => {
-            ended(line, engine::run_list(s, lent.things, lent.cells, b.0, lent.out));
+            ended(
+                line,
+                engine::run_list(s, lent.things, lent.cells, b.0, lent.out),
+            );
             line.tell(sum::numbers(lent.out));
         }
         _ => ended(line, engine::run_quietly(s, lent.things, lent.cells, b.0)),

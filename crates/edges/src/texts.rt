@@ -2,8 +2,7 @@
 use crate::case::Bytes;
 
 fn line(b: Bytes, at: usize, out: &mut [u8]) -> usize {
-    let (numbers, n) = b.numbers();
-    lines::put_line(out, at, &numbers[..n])
+    lines::put_line(out, at, b.numbers().list())
 }
 
 pub(crate) fn put(task: u8, b: Bytes, at: usize, out: &mut [u8]) -> usize {
