@@ -58,7 +58,7 @@ impl Line {
     }
 }
 
-// ---- numbers; a flag is 1 or 0
+// ---- numbers; a flag is 1 or 0. One impl for all that goes into a u64 would be one for a Result too, as far as the language knows.
 
 impl Told for bool {
     fn tell(self, line: &mut Line) {
