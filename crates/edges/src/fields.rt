@@ -1,90 +1,88 @@
 // The tasks that read a position of the case's bytes, 70 to 75: requests, records, bodies and fields. And 76: the id that all of them name.
-use crate::print::Line;
-use crate::{case, sum};
-use records::{Field, Kinds};
-use request_bytes::RequestReading;
+use crate::case::{Bytes, Case};
+use crate::print::{Line, Told};
+use crate::sum;
+use faults::Fault;
+use records::{Kinds, Refused};
+use request_bytes::Request;
 
-fn request_reading(line: &mut Line, answer: RequestReading) {
+// Where a request ended, or that there is none.
+fn end(line: &mut Line, answer: Result<Option<usize>, Refused>) {
     match answer {
-        RequestReading::Done { next } => line.pair(0, next),
-        RequestReading::End => line.text(b" end"),
-        RequestReading::Refused { number, at } => line.pair(number, at),
+        Ok(Some(next)) => line.numbers(&[0, next as u64]),
+        Ok(None) => line.text(b" end"),
+        Err(refused) => line.tell(refused),
     }
 }
 
-fn read_request(line: &mut Line, b: &[u8], at: usize) {
-    let read = request_bytes::read_request(b, at);
-    let answer = read.answer;
-    let q = read.request;
-    let ids = q.ids;
-    request_reading(line, answer);
-    line.byte(q.command);
-    line.byte(q.count);
-    line.number(sum::ids(&ids));
+// Of no request all is 0.
+fn read_request(line: &mut Line, b: Bytes, at: usize) {
+    let read = request_bytes::read_request(b.0, at);
+    end(line, read.map(|found| found.map(|(_, next)| next)));
+    let request = match read {
+        Ok(Some((request, _))) => request,
+        _ => Request {
+            command: 0,
+            count: 0,
+            ids: [0; Request::LIMIT],
+        },
+    };
+    line.tell(request.command);
+    line.tell(request.count);
+    line.tell(sum::numbers(&request.ids));
 }
 
 // The kinds stand before the bytes that the record is looked for in.
-fn record(line: &mut Line, b: &[u8], at: usize) {
-    let kinds = Kinds(case::two_at(b, 0));
-    let s = records::body(b, 2, 65536);
-    line.record(records::record_at(s, at, kinds));
-    line.reading(records::next_record(s, at, kinds));
-    line.record(matrix_records::any_record_at(s, at));
+fn record(line: &mut Line, b: Bytes, at: usize) {
+    let kinds = Kinds(b.two_at(0));
+    let s = b.behind(2).0;
+    line.tell(records::record_at(s, at, kinds));
+    line.tell(records::next_record(s, at, kinds));
+    line.tell(matrix_records::any_record_at(s, at));
 }
 
 // The length stands before the bytes.
-fn body(line: &mut Line, b: &[u8], start: usize) {
-    let s = records::body(b, 8, 65536);
-    let part = records::body(s, start, case::eight_at(b, 0) as usize);
-    line.number(part.len() as u64);
-    line.number(sum::bytes(part));
+fn body(line: &mut Line, b: Bytes, start: usize) {
+    let part = records::body(b.behind(8).0, start, b.eight_at(0) as usize);
+    line.tell(part.len());
+    line.tell(sum::numbers(part));
 }
 
-fn limited(line: &mut Line, answer: Field) {
-    line.byte(answer.number());
-    if let Field::Value(v) = answer {
-        line.byte(v);
-    }
+// How a field was read, and its value, 0 for none.
+fn field<T: Told>(line: &mut Line, read: Result<T, Fault>, value: T) {
+    line.tell(read.map(|_| ()));
+    line.tell(value);
 }
 
 // The least value, the limit and the fault's number stand before the body.
-fn fields(line: &mut Line, b: &[u8], at: usize) {
-    let low = case::one_at(b, 0);
-    let limit = case::one_at(b, 1);
-    let number = case::one_at(b, 2);
-    let s = records::body(b, 3, 65536);
-    line.pair(
-        records::byte_at(s, at).number(),
-        case::one_at(s, at) as usize,
-    );
-    limited(line, records::field_at(s, at, low, limit, number));
-    line.pair(
-        records::field2_at(s, at).number(),
-        case::two_at(s, at) as usize,
-    );
-    line.pair(
-        records::field8_at(s, at).number(),
-        case::eight_at(s, at) as usize,
-    );
+fn fields(line: &mut Line, b: Bytes, at: usize) {
+    let low = b.one_at(0);
+    let limit = b.one_at(1);
+    let number = b.one_at(2);
+    let s = b.behind(3);
+    field(line, records::byte_at(s.0, at), s.one_at(at));
+    line.tell(records::field_at(s.0, at, low, limit, number));
+    field(line, records::field2_at(s.0, at), s.two_at(at));
+    field(line, records::field8_at(s.0, at), s.eight_at(at));
 }
 
 fn id(line: &mut Line, word: &[u8]) {
     match lines::id_in(word) {
         Some(x) => line.numbers(&[1, x as u64]),
-        None => line.number(0),
+        None => line.tell(0u64),
     }
 }
 
-pub(crate) fn task(line: &mut Line, case: &[u8]) {
-    let b = case::bytes(case);
-    let at = case::position(case);
-    match case::one_at(case, 0) {
+pub(crate) fn task(line: &mut Line, case: Case) {
+    let b = case.bytes;
+    let at = case.at;
+    match case.task {
         70 => read_request(line, b, at),
-        71 => request_reading(line, request_bytes::skip_request(b, at)),
-        72 => line.number(request_list::count_requests(b) as u64),
+        71 => end(line, request_bytes::skip_request(b.0, at)),
+        72 => line.tell(request_list::count_requests(b.0)),
         73 => record(line, b, at),
         74 => body(line, b, at),
-        76 => id(line, b),
+        76 => id(line, b.0),
         _ => fields(line, b, at),
     }
 }

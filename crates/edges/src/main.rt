@@ -5,7 +5,9 @@
 mod case;
 mod checks;
 mod fields;
+mod given;
 mod input;
+mod lent;
 mod matrices;
 mod moves;
 mod outputs;
@@ -19,107 +21,85 @@ mod sets;
 mod stores;
 mod sum;
 mod texts;
+mod told;
 mod values;
 
-ghost use Rattle.std.specs.Prelude.{◌≡◌, length};
-
+use case::Case;
+use lent::Lent;
 use model::{Scheme, Things};
 use print::Line;
 use std::io::{Result, Stdin, Stdout};
 
-// The tasks that leave the matrix as it is.
-fn ask(line: &mut Line, case: &[u8], s: Scheme, th: Things, cells: &[u64], out: &mut [u8]) {
-    match case::one_at(case, 0) / 10 {
-        3 => outputs::task(line, case, s, th, cells, out),
-        4 | 5 => stores::task(line, case, out),
-        6 => checks::task(line, case, s, th, cells),
+// A task is told by its number alone, here and in the files of the tasks: the numbers are the input's format, and an enum would name each of the 63 twice
+// more, where it is read and where it is done.
+fn run(line: &mut Line, case: Case, lent: &mut Lent) {
+    match case.task / 10 {
+        0 => schemes::task(line, case, lent.scheme),
+        1 => matrices::task(line, case, lent),
+        2 => requests::task(line, case, lent),
+        3 => outputs::task(line, case, lent),
+        4 | 5 => stores::task(line, case, lent.out),
+        6 => checks::task(line, case, lent),
         7 => fields::task(line, case),
-        8 => sets::task(line, case),
-        9 => parts::task(line, case, s, th),
+        8 => sets::task(line, case.task, case.bytes),
+        9 => parts::task(line, case, lent),
+        10 => moves::task(line, case, lent),
         _ => {}
     }
 }
 
-fn run(
-    line: &mut Line,
-    case: &[u8],
-    s: Scheme,
-    th: Things,
-    cells: &mut [u64],
-    out: &mut [u8],
-) -> Things {
-    match case::one_at(case, 0) / 10 {
-        1 => matrices::task(line, case, s, th, cells),
-        2 => requests::task(line, case, s, th, cells, out),
-        10 => moves::task(line, case, s, th, cells, out),
-        _ => {
-            ask(line, case, s, th, cells, out);
-            th
-        }
-    }
+// What the cases share: a scheme and a matrix, with more cells than one has, and a buffer. The bytes of it that a case is lent hold the pattern.
+#[derive(Drop)]
+struct Shared {
+    scheme: Scheme,
+    things: Things,
+    cells: Vec<u64>,
+    space: Vec<u8>,
 }
 
-// Lends as many bytes of the buffer, which hold the pattern, and as many cells as the case says; then puts the sum of the matrix afterwards.
-fn lend(
-    line: &mut Line,
-    case: &[u8],
-    s: Scheme,
-    th: Things,
-    cells: &mut [u64],
-    space: &mut [u8],
-) -> Things {
-    let n = case::least(case::eight_at(case, 6) as usize, space.len());
-    let k = case::least(case::two_at(case, 4) as usize, cells.len());
-    pattern::bytes(&mut space[0..n]);
-    let new = run(line, case, s, th, &mut cells[0..k], &mut space[0..n]);
-    line.number(sum::matrix(new, cells));
-    new
+impl Shared {
+    // Then puts the sum of the matrix afterwards.
+    fn carry_out(&mut self, line: &mut Line, case: Case) {
+        let room = case.room.min(self.space.len());
+        let count = case.cells.min(self.cells.len());
+        let mut lent = Lent {
+            scheme: &mut self.scheme,
+            things: &mut self.things,
+            cells: &mut self.cells[..count],
+            out: &mut self.space[..room],
+        };
+        pattern::bytes(lent.out);
+        run(line, case, &mut lent);
+        line.tell(sum::matrix(&self.things, &self.cells));
+    }
 }
 
 // One case behind the other, a line for each; there are fewer than that.
 fn run_all(
     input: &mut Stdin,
     output: &Stdout,
-    case: &mut [u8],
-    cells: &mut [u64],
-    space: &mut [u8],
+    buffer: &mut [u8],
+    shared: &mut Shared,
 ) -> Result<()> {
     let mut line = Line::empty();
-    let mut s = scheme_bytes::no_scheme();
-    let mut th = things::no_things();
     for _ in 0..65536 {
-        if !input::next(input, case)? {
+        let Some(case) = input::next(input, buffer)? else {
             break;
-        }
-        line.text(case::label(case));
-        s = schemes::task(&mut line, case, s);
-        th = lend(&mut line, case, s, th, cells, space);
+        };
+        line.text(case.label);
+        shared.carry_out(&mut line, case);
         line.end(output)?;
     }
     Ok(())
 }
 
-fn no_cells() -> [u64; 2400]
-    ensures { 2400 ≡ length result }
-{
-    [0; 2400]
-}
-
-fn no_output() -> [u8; 65600]
-    ensures { 65600 ≡ length result }
-{
-    [0; 65600]
-}
-
 fn main(rt: HostRuntime) -> Result<()> {
-    let mut case = [0u8; 65536];
-    let mut cells = no_cells();
-    let mut space = no_output();
-    run_all(
-        &mut rt.stdin(),
-        &rt.stdout(),
-        &mut case,
-        &mut cells,
-        &mut space,
-    )
+    let mut buffer = vec![in rt.alloc(); 0; Case::LONGEST]?;
+    let mut shared = Shared {
+        scheme: scheme_bytes::no_scheme(),
+        things: things::no_things(),
+        cells: vec![in rt.alloc(); 0; 2400]?,
+        space: vec![in rt.alloc(); 0; 65600]?,
+    };
+    run_all(&mut rt.stdin(), &rt.stdout(), &mut buffer, &mut shared)
 }

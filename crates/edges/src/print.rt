@@ -1,17 +1,25 @@
-// The line that a case prints, put together in memory and written at once: numbers and answers. An answer's number and position are told by its own
-// methods, with 0 for a position that it doesn't have.
-use crate::sum;
-use convert::Conversion;
-use records::{Reading, RecordAnswer, Writing};
-use std::io::{Print, Result, Stdout};
+// The line that a case prints, put together in memory and written at once, and what can be told on it.
+use std::io;
+use std::io::{Print, Stdout};
 
 // The longest label has 255 bytes, and no task prints twenty numbers behind it.
 const ROOM: usize = 1024;
 
+// An array and its length: a Vec could fail at each number that is put, and every task would have to return that.
 #[derive(Drop)]
 pub(crate) struct Line {
     text: [u8; ROOM],
     length: usize,
+}
+
+// What a line can tell: a number or several, each behind a space.
+pub(crate) trait Told: Drop {
+    fn tell(self, line: &mut Line);
+}
+
+// Why something is refused. What isn't refused tells the numbers of `none`, and then the answer.
+pub(crate) trait Why: Told {
+    fn none() -> Self;
 }
 
 impl Line {
@@ -23,7 +31,7 @@ impl Line {
     }
 
     // Writes what was put, and begins the next line.
-    pub(crate) fn end(&mut self, to: &Stdout) -> Result<()> {
+    pub(crate) fn end(&mut self, to: &Stdout) -> io::Result<()> {
         self.text(b"\n");
         let length = self.length;
         self.length = 0;
@@ -34,7 +42,7 @@ impl Line {
         self.length = lines::put_text(&mut self.text, self.length, bytes);
     }
 
-    pub(crate) fn number(&mut self, x: u64) {
+    fn number(&mut self, x: u64) {
         self.text(b" ");
         self.length = lines::put_decimal(&mut self.text, self.length, x);
     }
@@ -45,48 +53,71 @@ impl Line {
         }
     }
 
-    pub(crate) fn byte(&mut self, x: u8) {
-        self.number(x as u64);
+    pub(crate) fn tell<T: Told>(&mut self, what: T) {
+        what.tell(self);
     }
+}
 
-    pub(crate) fn pair(&mut self, x: u8, y: usize) {
-        self.byte(x);
-        self.number(y as u64);
+// ---- numbers; a flag is 1 or 0. One impl for all that goes into a u64 would be one for a Result too, as far as the language knows.
+
+impl Told for bool {
+    fn tell(self, line: &mut Line) {
+        line.number(self as u64);
     }
+}
 
-    pub(crate) fn flag(&mut self, holds: bool) {
-        self.number(holds as u64);
+impl Told for u8 {
+    fn tell(self, line: &mut Line) {
+        line.number(self as u64);
     }
+}
 
-    pub(crate) fn reading(&mut self, answer: Reading) {
-        self.pair(answer.number(), answer.at());
-        if let Reading::Done { next } = answer {
-            self.number(next as u64);
-        }
+impl Told for u16 {
+    fn tell(self, line: &mut Line) {
+        line.number(self as u64);
     }
+}
 
-    pub(crate) fn record(&mut self, answer: RecordAnswer) {
-        self.pair(answer.number(), answer.at());
-        if let RecordAnswer::Record { kind, start, len } = answer {
-            self.number(kind as u64);
-            self.number(start as u64);
-            self.number(len as u64);
-        }
+impl Told for u32 {
+    fn tell(self, line: &mut Line) {
+        line.number(self as u64);
     }
+}
 
-    // The answer of a writing, and the sum of the buffer that it was lent.
-    pub(crate) fn written(&mut self, answer: Writing, out: &[u8]) {
-        self.byte(answer.number());
-        if let Writing::Done { next } = answer {
-            self.number(next as u64);
-        }
-        self.number(sum::bytes(out));
+impl Told for u64 {
+    fn tell(self, line: &mut Line) {
+        line.number(self);
     }
+}
 
-    pub(crate) fn conversion(&mut self, answer: Conversion) {
-        match answer {
-            Conversion::Done => self.number(0),
-            Conversion::Refused(x) => self.byte(x),
+impl Told for usize {
+    fn tell(self, line: &mut Line) {
+        line.number(self as u64);
+    }
+}
+
+// ---- several
+
+impl Told for () {
+    fn tell(self, _line: &mut Line) {}
+}
+
+impl<A: Told, B: Told> Told for (A, B) {
+    fn tell(self, line: &mut Line) {
+        let (first, second) = self;
+        first.tell(line);
+        second.tell(line);
+    }
+}
+
+impl<T: Told, E: Why> Told for Result<T, E> {
+    fn tell(self, line: &mut Line) {
+        match self {
+            Ok(answer) => {
+                E::none().tell(line);
+                answer.tell(line);
+            }
+            Err(why) => why.tell(line),
         }
     }
 }

@@ -1,18 +1,16 @@
 // Values handed in as no reading gives them: a scheme's head and single places of its arrays, set to anything.
-use crate::case::{one_at, two_at};
+use crate::case::Bytes;
 use model::{Code, Command, Head, Operation, Operations, Scheme};
 use rights::{Parameter, Right, TypeSet};
 
 // n, m, the subject types, how many commands.
-pub(crate) fn head(b: &[u8], s: Scheme) -> Scheme {
-    let head = Head {
-        rights: one_at(b, 0),
-        types: one_at(b, 1),
-        subjects: TypeSet(two_at(b, 2)),
-        count: one_at(b, 4),
+pub(crate) fn set_head(b: Bytes, s: &mut Scheme) {
+    s.head = Head {
+        rights: b.one_at(0),
+        types: b.one_at(1),
+        subjects: TypeSet(b.two_at(2)),
+        count: b.one_at(4),
     };
-    let commands = s.commands;
-    Scheme { head, commands }
 }
 
 // ---- a command: how many parameters, tests and operations, and one of the operations
@@ -26,48 +24,34 @@ pub(crate) fn code(x: u8) -> Code {
     }
 }
 
-fn operations(b: &[u8], o: Operations) -> Operations {
-    let mut list = o.list;
-    let i = one_at(b, 4) as usize;
-    if i < 32 {
-        let code = code(one_at(b, 5));
-        list[i] = Operation {
-            code,
-            right: Right(one_at(b, 6)),
-            row: Parameter(one_at(b, 7)),
-            column: Parameter(one_at(b, 8)),
-        };
+fn operation(b: Bytes) -> Operation {
+    Operation {
+        code: code(b.one_at(5)),
+        right: Right(b.one_at(6)),
+        row: Parameter(b.one_at(7)),
+        column: Parameter(b.one_at(8)),
     }
-    Operations {
-        count: one_at(b, 3),
-        list,
-    }
-}
-
-fn command(b: &[u8], c: Command) -> Command {
-    let parameters = one_at(b, 1);
-    let tests = one_at(b, 2);
-    let operations = operations(b, c.operations);
-    let mut set = c;
-    set.parameters.count = parameters;
-    set.tests.count = tests;
-    set.operations = operations;
-    set
 }
 
 // ---- a place of the scheme's commands
 
-pub(crate) fn command_at(s: Scheme, i: usize) -> Command {
-    s.commands[i % 32]
+pub(crate) fn command_at(s: &Scheme, i: usize) -> Command {
+    s.commands[i % Scheme::PLACES]
 }
 
 // The place is the first of the bytes.
-pub(crate) fn with_command(s: Scheme, b: &[u8], c: Command) -> Scheme {
-    let mut set = s;
-    set.commands[one_at(b, 0) as usize % 32] = c;
-    set
+pub(crate) fn put_command(b: Bytes, c: Command, s: &mut Scheme) {
+    s.commands[b.one_at(0) as usize % Scheme::PLACES] = c;
 }
 
-pub(crate) fn commands(b: &[u8], s: Scheme) -> Scheme {
-    with_command(s, b, command(b, command_at(s, one_at(b, 0) as usize)))
+pub(crate) fn set_command(b: Bytes, s: &mut Scheme) {
+    let mut command = command_at(s, b.one_at(0) as usize);
+    command.parameters.count = b.one_at(1);
+    command.tests.count = b.one_at(2);
+    command.operations.count = b.one_at(3);
+    let place = b.one_at(4) as usize;
+    if place < Operations::PLACES {
+        command.operations.list[place] = operation(b);
+    }
+    put_command(b, command, s);
 }
