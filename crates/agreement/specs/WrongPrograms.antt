@@ -12,8 +12,8 @@ use Rattle.scheme_bytes.specs.Write.{write_scheme}
 use Rattle.matrix_bytes.specs.Write.{write_matrix}
 use Rattle.records.specs.Outcome.Writing.{Writing}
 use Rattle.convert.specs.Convert.{converted_scheme, converted_cells, convert_scheme_into, convert_matrix_into}
-use Rattle.convert.specs.declared.answers.Conversion.{Conversion}
-use Rattle.convert.specs.declared.answers.SchemeConversion.{SchemeConversion}
+use Rattle.convert.specs.Outcome.Conversion.{Conversion}
+use Rattle.convert.specs.Outcome.SchemeConversion.{SchemeConversion}
 use Rattle.totals.specs.Totals.{paper_totals, totals_of}
 use Rattle.totals.specs.Outcome.{Outcome}
 
