@@ -20,7 +20,7 @@ use Rattle.scheme_bytes.specs.Write.{scheme_bytes, write_scheme}
 use Rattle.scheme_bytes.specs.Answers.{read_scheme}
 use Rattle.scheme_bytes.specs.Answers.{SchemeAnswer}
 use Rattle.scheme_bytes.proofs.FunctionTrips.{function_trips}
-use Rattle.matrix_bytes.specs.Answers.{read_matrix, read_matrix_by_head}
+use Rattle.matrix_bytes.specs.Answers.{read_matrix_by_head}
 use Rattle.matrix_bytes.specs.Write.{write_matrix}
 use Rattle.matrix_bytes.specs.MatrixAnswer.{MatrixAnswer}
 use Rattle.hold.specs.Marking.{as_marked, marked_result}
@@ -36,7 +36,9 @@ use Rattle.faults.proofs.NumberLaws.{numbered}
 use Rattle.laws.proofs.Differ.{constructors_differ}
 use Rattle.model.specs.Request.{done, refused}
 use Rattle.records.specs.Outcome.Writing as writing
-use Rattle.records.specs.Results.{writing_result, written}
+use Rattle.records.specs.Results.{refused as refused_at, reading_result, writing_result, written}
+use Rattle.scheme_bytes.specs.Answers.{scheme_result}
+use Rattle.matrix_bytes.specs.Answers.{matrix_result}
 use Rattle.records.specs.declared.Refused.{Refused as Refusal}
 use Rattle.moving.specs.Outcome.Moved as moving
 use Rattle.moving.specs.Answers.{moved_result, moved_into}
@@ -80,7 +82,7 @@ module _ {A : Type 0} (refused : ℕ → ℕ → ℕ → A) where
 
   -- against a scheme that is accepted
   module _ (next : Matrix → ℕ → A) (bytes : List ℕ) (s : Scheme) (ok : T (accepted_scheme s)) where
-    read : MatrixAnswer × List ℕ
+    abbrev read : MatrixAnswer × List ℕ
     read = read_matrix_by_head bytes s.head no_things (replicate 2304 0)
 
     same : after_matrix refused next read read.0.answer ≡ with_matrix refused s bytes next
@@ -139,6 +141,64 @@ found_accepted bytes small {p} e = let r = read_scheme bytes no_scheme in go r r
         by (Done n) ea e = let f : r.scheme ≡ p.0 = ap (λ (q : Scheme × ℕ). q.0) (let g : (r.scheme, n) ≡ p = cc in g) in rw f at (scheme_accepted bytes small r is n ea)
         by (Refused k at) ea e = constructors_differ (cc)
 
+-- ---- what was found, from what the readers gave
+module _ (bytes : List ℕ) {table s : Scheme} (none : table ≡ no_scheme) where
+  scheme_as : {r : Result ℕ Refusal} (a : SchemeAnswer) → ◌≡◌ {A = Result ℕ Refusal × Scheme} (r, s) (scheme_result a) → (r ≡ reading_result a.answer) × (s ≡ a.scheme)
+  scheme_as a e = (ap (λ (x : Result ℕ Refusal × Scheme). x.0) e, ap (λ (x : Result ℕ Refusal × Scheme). x.1) e)
+
+  pub scheme_ok : {n : ℕ} → ◌≡◌ {A = Result ℕ Refusal × Scheme} (Ok n, s) (scheme_result (read_scheme bytes table)) → Ok (s, n) ≡ scheme_found bytes
+  unfolding scheme_found
+  scheme_ok {n} e = let (f, g) = scheme_as (read_scheme bytes no_scheme) (rw none at e) in go (read_scheme bytes no_scheme).scheme (read_scheme bytes no_scheme).answer f g
+    where
+      go : (t : Scheme) (a : Reading) → Ok n ≡ reading_result a → s ≡ t → Ok (s, n) ≡ found place.Scheme t a
+      go t (Done m) f g = let h : n ≡ m = cc in rw (g, h)
+      go t (Refused k at) f g = constructors_differ (cc)
+
+  pub scheme_err : {r : Refusal} → ◌≡◌ {A = Result ℕ Refusal × Scheme} (Err r, s) (scheme_result (read_scheme bytes table)) →
+      Err (record { fault = r.fault; place = place.Scheme; at = r.at }) ≡ scheme_found bytes
+  unfolding scheme_found
+  scheme_err {r} e = let (f, g) = scheme_as (read_scheme bytes no_scheme) (rw none at e) in go (read_scheme bytes no_scheme).scheme (read_scheme bytes no_scheme).answer f
+    where
+      go : (t : Scheme) (a : Reading) → Err r ≡ reading_result a → Err (record { fault = r.fault; place = place.Scheme; at = r.at }) ≡ found place.Scheme t a
+      go t (Done m) f = constructors_differ (cc)
+      go t (Refused k at) f = let h : r ≡ refused_at k at = cc in ap (λ (x : Refusal). Err (record { fault = x.fault; place = place.Scheme; at = x.at })) h
+
+abbrev Given : Type 0
+Given = Result ℕ Refusal × Things × List ℕ
+
+abbrev Found : Type 0
+Found = Result (Things × ℕ) Failure × List ℕ
+
+module _ (bytes : List ℕ) (h : Head) {th : Things} {cells : List ℕ} (none : th ≡ no_things) (empty : cells ≡ replicate 2304 0) where
+  pub matrix_ok : {now : Things} {left : List ℕ} {n : ℕ} → ◌≡◌ {A = Given} (Ok n, now, left) (matrix_result (read_matrix_by_head bytes h th cells)) →
+      ◌≡◌ {A = Found} (Ok (now, n), left) (matrix_found bytes h)
+  unfolding matrix_found
+  matrix_ok {now} {left} {n} e =
+      let was = read_matrix_by_head bytes h no_things (replicate 2304 0) in
+      let f : ◌≡◌ {A = Given} (Ok n, now, left) (matrix_result was) = rw (none, empty) at e in
+      go was.0.things was.0.answer was.1 (ap (λ (x : Given). x.0) f) (ap (λ (x : Given). x.1) f) (ap (λ (x : Given). x.2) f)
+    where
+      go : (t : Things) (a : Reading) (l : List ℕ) → Ok n ≡ reading_result a → now ≡ t → left ≡ l → ◌≡◌ {A = Found} (Ok (now, n), left) (found place.Matrix t a, l)
+      go t (Done m) l f g i = let j : n ≡ m = cc in rw (g, i, j)
+      go t (Refused k at) l f g i = constructors_differ (cc)
+
+  pub matrix_err : {now : Things} {left : List ℕ} {r : Refusal} → ◌≡◌ {A = Given} (Err r, now, left) (matrix_result (read_matrix_by_head bytes h th cells)) →
+      ◌≡◌ {A = Found} (Err (record { fault = r.fault; place = place.Matrix; at = r.at }), left) (matrix_found bytes h)
+  unfolding matrix_found
+  matrix_err {now} {left} {r} e =
+      let was = read_matrix_by_head bytes h no_things (replicate 2304 0) in
+      let f : ◌≡◌ {A = Given} (Err r, now, left) (matrix_result was) = rw (none, empty) at e in
+      go was.0.things was.0.answer was.1 (ap (λ (x : Given). x.0) f) (ap (λ (x : Given). x.2) f)
+    where
+      go : (t : Things) (a : Reading) (l : List ℕ) → Err r ≡ reading_result a → left ≡ l →
+          ◌≡◌ {A = Found} (Err (record { fault = r.fault; place = place.Matrix; at = r.at }), left) (found place.Matrix t a, l)
+      go t (Done m) l f i = constructors_differ (cc)
+      go t (Refused k at) l f i =
+          let j : r ≡ refused_at k at = cc in
+          let g : ◌≡◌ {A = Failure} (record { fault = r.fault; place = place.Matrix; at = r.at }) (record { fault = fault_of k; place = place.Matrix; at = at }) =
+          ap (λ (x : Refusal). record { fault = x.fault; place = place.Matrix; at = x.at }) j in
+          rw (i, g)
+
 -- ---- what is told of what was stored
 pub stored_is : (other : ℕ) (w : Writing) → stored_told other (writing_result w) ≡ writing_by other w
 stored_is other (writing.Done n) = refl
@@ -167,7 +227,6 @@ module _ (s : Scheme) (cells : List ℕ) (th : Things) (o : Outcome Things) wher
   marked_not out {f} e = go o (ap (λ (x : Result (Unit {0}) Fault × Things). x.0) e)
     where
       go : (o : Outcome Things) → Err f ≡ (marked_result (as_marked th o)).0 → ◌≡◌ {A = Filled} (call (number_of f) 2 0 0 0, out) (filled (marked_into out s cells o))
-      unfolding marked_into
       go (done now) e = constructors_differ (cc)
       go (refused r) e = let g : f ≡ fault_of r.number = cc in rw (g, back r.number)
 
@@ -179,7 +238,6 @@ module _ (s : Scheme) (cells : List ℕ) (th : Things) (o : Outcome Things) wher
     where
       go : (o : Outcome Things) → ◌≡◌ {A = Result (Unit {0}) Fault × Things} (Ok tt, now) (marked_result (as_marked th o)) →
           ◌≡◌ {A = Filled} (c, out') (filled (marked_into out s cells o))
-      unfolding marked_into
       go (done m) e =
           let h : now ≡ m = ap (λ (x : Result (Unit {0}) Fault × Things). x.1) e in
           wrote_is 2 (write_matrix out s (matrix_of m cells)) f (rw h at g)

@@ -22,8 +22,6 @@ use Rattle.model.proofs.Joined.{run_kept}
 use Rattle.records.specs.Writing.{placed, write_bytes}
 use Rattle.records.specs.Outcome.Reading.{Reading}
 use Rattle.records.specs.Outcome.Reading as reading
-use Rattle.records.specs.Outcome.Writing.{Writing}
-use Rattle.records.specs.Outcome.Writing as writing
 use Rattle.records.proofs.Wrote.{pair_eq, wrote}
 use Rattle.matrix_bytes.specs.Answers.{read_matrix, read_matrix_by_head}
 use Rattle.matrix_bytes.specs.Write.{matrix_bytes, write_matrix, write_matrix_by_head}
@@ -40,7 +38,9 @@ use Rattle.faults.specs.declared.Fault.{Fault}
 use Rattle.faults.proofs.NumberLaws.{numbered}
 use Rattle.records.specs.Results.{refused, written}
 use Rattle.robot.specs.Library.{Called, call, cut_short, bytes_after, ended_by, run_matrix}
-use Rattle.robot.specs.Inner.Calls.{told_done, Answered, answered}
+use Rattle.robot.specs.Inner.Calls.{told_done, Answered, answered, matrix_found}
+use Rattle.robot.specs.declared.report.Failure.{Failure}
+use Rattle.robot.proofs.CallLaws.{matrix_was}
 use Rattle.robot.specs.Inner.Parts.{count_in, ending_by, needed_by}
 use Rattle.robot.specs.declared.run.Needed.{Needed}
 use Rattle.robot.proofs.SizeLaws.{largest}
@@ -61,6 +61,10 @@ read_accepted bytes s ok things cells new r n small is e =
     let (end, again) = function_trips.read bytes s things cells n r.things new small got in
     let (t, w) = wrote (accepted_scheme s && accepted_matrix s.head m) 27 bytes 0 (matrix_bytes s.head m) _ _ (again bytes (omega arith)) in
     and_right (accepted_scheme s) _ t
+
+pub found_matrix_accepted : (bytes : List ℕ) (s : Scheme) → T (accepted_scheme s) → ((i : ℕ) → get_or bytes i 0 < 256) → {p : Things × ℕ} {cells : List ℕ} →
+    ◌≡◌ {A = Result (Things × ℕ) Failure × List ℕ} (Ok p, cells) (matrix_found bytes s.head) → T (accepted_matrix s.head (record { things = p.0; cells = cells }))
+found_matrix_accepted bytes s ok small e = read_accepted bytes s ok _ _ _ _ _ small (matrix_was bytes s.head e) refl
 
 abbrev Stored : Type 0
 Stored = Result ℕ Fault
@@ -143,11 +147,10 @@ module _ (s : Scheme) (ok : T (accepted_scheme s)) (m : Matrix) (of : T (accepte
       where
         go : (b : Bool) → leb (reply_width * count) (length results) ≡ b → ◌≡◌ {A = Given} (Err f, th, cells, replies) (gives (by_room b)) →
             ◌≡◌ {A = Answered} (call (number_of f) 4 0 0 0, replies, out) (answered (run_matrix s m l results out))
-        unfolding run_matrix
         go true h g = absurd (ended_not count l.ending (ap (λ (x : Given). x.0) g))
         go false h g =
             let r : replies ≡ results = ap (λ (x : Given). x.3) g in
-            let z : Err {T = Ended} f ≡ Err (fault_of 9) = ap (λ (x : Given). x.0) g in
+            let z : ◌≡◌ {A = Result Ended Fault} (Err f) (Err (fault_of 9)) = ap (λ (x : Given). x.0) g in
             let nine : number_of f ≡ 9 = (let y : f ≡ fault_of 9 = cc in ap number_of y ∙ numbered 9) in
             rw (h, r, nine)
 
@@ -155,11 +158,11 @@ module _ (s : Scheme) (ok : T (accepted_scheme s)) (m : Matrix) (of : T (accepte
         length (bytes_after s m l) ≤ length out → {r : Stored} {out' : List ℕ} →
         ◌≡◌ {A = Stored × List ℕ} (r, out') (written (write_matrix_by_head out s.head (record { things = th; cells = cells }))) →
         ◌≡◌ {A = Answered} (done_told (result_unwrap_or r 0) x, replies, out') (answered (run_matrix s m l results out))
+    unfolding run_matrix
     run_carried {x} e room {r} {out'} is = go (leb (reply_width * count) (length results)) refl (accepted e)
       where
         go : (b : Bool) → leb (reply_width * count) (length results) ≡ b → ◌≡◌ {A = Given} (Ok x, th, cells, replies) (gives (by_room b)) →
             ◌≡◌ {A = Answered} (done_told (result_unwrap_or r 0) x, replies, out') (answered (run_matrix s m l results out))
-        unfolding run_matrix
         go true h g =
             let (size, stands) = written_after s ok m of l out room th cells (ap (λ (x : Given). x.1) g) (ap (λ (x : Given). x.2) g) is in
             let same : replies ≡ placed results 0 (replies_to s m l.requests) = ap (λ (x : Given). x.3) g in

@@ -27,7 +27,10 @@ fn convert_of(s: Scheme, matrix: &[u8], out: &mut [u8]) -> Called
 {
     let mut cells = [0u64; Things::CELLS];
     let (things, _) = matrix_of(matrix, s.head, &mut cells)?;
-    written(convert::convert_matrix(out, s, things, &cells), Place::Scheme)
+    written(
+        convert::convert_matrix(out, s, things, &cells),
+        Place::Scheme,
+    )
 }
 
 fn convert_matrix(scheme: &[u8], matrix: &[u8], out: &mut [u8]) -> Called

@@ -17,7 +17,10 @@ fn mark_of(s: Scheme, matrix: &[u8], id: u16, mark: bool, out: &mut [u8]) -> Cal
     if let Err(fault) = hold::mark_thing(&mut things, id, mark) {
         return Err(Failure::at_start(fault, Place::Matrix));
     }
-    written(matrix_write::write_matrix(out, s, things, &cells), Place::Matrix)
+    written(
+        matrix_write::write_matrix(out, s, things, &cells),
+        Place::Matrix,
+    )
 }
 
 fn mark_bytes(scheme: &[u8], matrix: &[u8], id: u16, mark: bool, out: &mut [u8]) -> Called

@@ -1,8 +1,9 @@
 // What a call tells: what it did, or why it was refused; and the five numbers of it that every function of the library puts into the lent report.
-ghost use Rattle.std.specs.Prelude.{◌≡◌, cond, List, ℕ, eqb, None};
+ghost use Rattle.std.specs.Prelude.{◌≡◌, cond, List, ℕ, eqb, set, None};
+ghost use Rattle.std.proofs.lemmas.List.Edits.{sets};
 ghost use Rattle.faults.specs.Numbers.{number_of};
 ghost use Rattle.robot.specs.Library.{gives};
-ghost use Rattle.robot.specs.Inner.Calls.{place_number, told, stored_told, moved_told};
+ghost use Rattle.robot.specs.Inner.Calls.{listed, place_number, told, stored_told, moved_told};
 
 use faults::Fault;
 use records::Refused;
@@ -133,34 +134,79 @@ pub(crate) fn moved(answer: Result<usize, Refused>) -> Called
     }
 }
 
-// The five numbers of a report. Of a list that a record has ended its number is told here, and the call's is 0.
-fn numbers(called: Called) -> [usize; 5]
-    ensures { result ≡ (told called).report }
+// The five numbers of a report.
+#[derive(Clone, Copy, Debug, PartialEq, Eq)]
+pub(crate) struct Numbers {
+    place: usize,
+    at: usize,
+    count: usize,
+    written: usize,
+    cut: usize,
+}
+
+// Of a list that a record has ended that record's number is told here, and the call's is 0.
+fn numbers_of(called: Called) -> Numbers
+    ensures { listed result ≡ (told called).report }
 {
     match called {
-        Err(failure) => [failure.place.number(), failure.at, 0, 0, 0],
+        Err(failure) => Numbers {
+            place: failure.place.number(),
+            at: failure.at,
+            count: 0,
+            written: 0,
+            cut: 0,
+        },
         Ok(done) => match done.cut {
-            None => [0, done.at, done.count, done.written, 0],
-            Some(refused) => [
-                Place::List.number(),
-                refused.at,
-                done.count,
-                done.written,
-                refused.fault.number() as usize,
-            ],
+            None => Numbers {
+                place: 0,
+                at: done.at,
+                count: done.count,
+                written: done.written,
+                cut: 0,
+            },
+            Some(refused) => Numbers {
+                place: Place::List.number(),
+                at: refused.at,
+                count: done.count,
+                written: done.written,
+                cut: refused.fault.number() as usize,
+            },
         },
     }
 }
 
-// The call's own number; the report holds as many of the five as it has room for.
-pub(crate) fn tell(report: &mut [usize], called: Called) -> u8
-    ensures { ◌≡◌ {A = ℕ × List ℕ} (result, report.new) (gives report.old (told called)) }
+// A report holds as many of the five as it has room for.
+fn put(report: &mut [usize], i: usize, v: usize)
+    ensures { report.new ≡ set report.old i v }
 {
-    for (place, number) in report.iter_mut().zip(numbers(called)) {
-        *place = number;
+    if i < report.len() {
+        report[i] = v;
     }
+}
+
+fn put_all(report: &mut [usize], n: Numbers)
+    ensures { report.new ≡ sets report.old 0 (listed n) }
+{
+    put(report, 0, n.place);
+    put(report, 1, n.at);
+    put(report, 2, n.count);
+    put(report, 3, n.written);
+    put(report, 4, n.cut);
+}
+
+// The call's own number.
+fn own_number(called: Called) -> u8
+    ensures { result ≡ (told called).number }
+{
     match called {
         Ok(_) => 0,
         Err(failure) => failure.fault.number(),
     }
+}
+
+pub(crate) fn tell(report: &mut [usize], called: Called) -> u8
+    ensures { ◌≡◌ {A = ℕ × List ℕ} (result, report.new) (gives report.old (told called)) }
+{
+    put_all(report, numbers_of(called));
+    own_number(called)
 }

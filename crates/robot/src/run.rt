@@ -42,7 +42,9 @@ fn trial_of(s: Scheme, th: Things, cells: [u64; Things::CELLS], requests: &[u8])
     let mut trial = cells;
     let answers = count_of(engine::run_quietly(s, &mut things, &mut trial, requests));
     let mut scratch = [0u8; LARGEST];
-    let bytes = matrix_write::write_matrix_by_head(&mut scratch, s.head, things, &trial).unwrap_or(0);
+    let bytes = matrix_write::write_matrix_by_head(&mut scratch, s.head, things, &trial).unwrap_or(
+        0,
+    );
     Needed { answers, bytes }
 }
 
@@ -70,13 +72,7 @@ fn run_on(
 }
 
 // A run of a matrix in bytes. Only where the output might be too short is the run tried first.
-fn run_of(
-    s: Scheme,
-    matrix: &[u8],
-    requests: &[u8],
-    answers: &mut [u8],
-    out: &mut [u8],
-) -> Called
+fn run_of(s: Scheme, matrix: &[u8], requests: &[u8], answers: &mut [u8], out: &mut [u8]) -> Called
     requires { T (accepted_scheme s) }
     ensures { ◌≡◌ {A = Answered} (told result, answers.new, out.new) (answered (run_against matrix.now requests.now answers.old out.old s)) }
 {
@@ -94,13 +90,7 @@ fn run_of(
     run_on(s, &mut things, &mut cells, requests, answers, out)
 }
 
-fn run(
-    scheme: &[u8],
-    matrix: &[u8],
-    requests: &[u8],
-    answers: &mut [u8],
-    out: &mut [u8],
-) -> Called
+fn run(scheme: &[u8], matrix: &[u8], requests: &[u8], answers: &mut [u8], out: &mut [u8]) -> Called
     ensures { ◌≡◌ {A = Answered} (told result, answers.new, out.new) (answered (run_bytes scheme.now matrix.now requests.now answers.old out.old)) }
 {
     let (s, _) = scheme_of(scheme)?;
@@ -129,5 +119,11 @@ pub fn slushferret_write_request(
 ) -> u8
     ensures { ◌≡◌ {A = ℕ × List ℕ × List ℕ} (result, out.new, report.new) (gives_wrote report.old (request_bytes out.old at command ids.now)) }
 {
-    tell(report, written(request_bytes::write_request(out, at, command, ids), Place::List))
+    tell(
+        report,
+        written(
+            request_bytes::write_request(out, at, command, ids),
+            Place::List,
+        ),
+    )
 }

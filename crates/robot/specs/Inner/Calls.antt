@@ -1,6 +1,6 @@
 -- What the library's inner functions give: what a call did, or why it was refused and where; and what that tells.
 -- Assumes nothing.
-use Rattle.std.specs.Prelude.{ℕ, cond, List, eqb, replicate, Result, Ok, Err, Option, Some, None}
+use Rattle.std.specs.Prelude.{ℕ, cond, List, [], ◌∷◌, eqb, replicate, Result, Ok, Err, Option, Some, None}
 use Rattle.faults.specs.Numbers.{number_of, fault_of}
 use Rattle.faults.specs.declared.Fault.{Fault}
 use Rattle.model.specs.Seats.{no_things}
@@ -10,13 +10,14 @@ use Rattle.model.specs.declared.Scheme.{Scheme}
 use Rattle.model.specs.declared.Things.{Things}
 use Rattle.records.specs.Outcome.Reading.{Reading}
 use Rattle.records.specs.Outcome.Reading.{Done, Refused}
-use Rattle.records.specs.declared.Refused as record
+use Rattle.records.specs.declared.Refused.{Refused as Refusal}
 use Rattle.scheme_bytes.specs.Answers.{read_scheme}
 use Rattle.matrix_bytes.specs.Answers.{read_matrix_by_head}
 use Rattle.robot.specs.Library.{Called, call, cut_short, Wrote, Ran}
 use Rattle.robot.specs.declared.report.Place.{Place}
 use Rattle.robot.specs.declared.report.Place.TheVariants as place
 use Rattle.robot.specs.declared.report.Failure.{Failure}
+use Rattle.robot.specs.declared.report.Numbers.{Numbers}
 use Rattle.robot.specs.declared.report.Success.{Success}
 
 abbrev pub place_number : Place → ℕ
@@ -27,13 +28,17 @@ place_number place.Answers = 4
 place_number place.Output = 5
 
 -- ---- what it tells
-abbrev pub told_done : Option record.Refused → Success → Called
+abbrev pub told_done : Option Refusal → Success → Called
 told_done None s = call 0 0 s.at s.count s.written
 told_done (Some r) s = cut_short (number_of r.fault) r.at s.count s.written
 
 abbrev pub told : Result Success Failure → Called
 told (Ok s) = told_done s.cut s
 told (Err f) = call (number_of f.fault) (place_number f.place) f.at 0 0
+
+-- the five numbers in the report's order
+abbrev pub listed : Numbers → List ℕ
+listed n = n.place ∷ n.at ∷ n.count ∷ n.written ∷ n.cut ∷ []
 
 -- with what the lent buffers then hold
 abbrev pub Filled : Type 0
@@ -53,7 +58,7 @@ abbrev pub stored_told : ℕ → Result ℕ Fault → Called
 stored_told other (Ok n) = call 0 0 0 0 n
 stored_told other (Err f) = call (number_of f) (cond (eqb (number_of f) 9) 5 other) 0 0 0
 
-abbrev pub moved_told : Result ℕ record.Refused → Called
+abbrev pub moved_told : Result ℕ Refusal → Called
 moved_told (Ok n) = call 0 0 0 0 n
 moved_told (Err r) = call (number_of r.fault) (cond (eqb (number_of r.fault) 9) 5 2) r.at 0 0
 
