@@ -30,7 +30,7 @@ pub(crate) fn task(line: &mut Line, b: Bytes, at: usize, s: &Scheme, th: &mut Th
     let operations = command.operations;
     told(
         line,
-        plan::locate(*th, parameters, operations, asked.ids()),
+        plan::locate(th, parameters, operations, asked.ids()),
         at,
     );
     let planned = plan::plan_all(*th, spots(b), parameters, asked.ids(), operations);
