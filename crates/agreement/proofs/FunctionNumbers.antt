@@ -22,8 +22,10 @@ use Rattle.model.specs.declared.Head.{Head}
 use Rattle.model.specs.declared.Scheme.{Scheme}
 use Rattle.model.specs.declared.Things.{Things}
 use Rattle.model.proofs.Numbers.{request_numbers}
+use Rattle.faults.proofs.NumberLaws.{numbered}
 use Rattle.records.specs.Reading.{Read, got, fault}
 use Rattle.records.specs.Front.{Refusal, against}
+use Rattle.records.specs.Results.{item_of}
 use Rattle.records.specs.Writing.{write_bytes}
 use Rattle.records.specs.Told.{of_record, of_reading, of_writing}
 use Rattle.records.specs.Outcome.RecordAnswer.{RecordAnswer}
@@ -34,7 +36,7 @@ use Rattle.records.specs.Outcome.Writing.{Writing}
 use Rattle.records.specs.Outcome.Writing as writing
 use Rattle.robot.specs.Library.{writing_by}
 use Rattle.records.proofs.Faults.{fine, passed_record}
-use Rattle.command_bytes.specs.Answers.{as_head_at, as_command_at, of_head_at}
+use Rattle.command_bytes.specs.Answers.{of_head_at, of_command_at}
 use Rattle.matrix_records.specs.Content.{Stated, ThingRecord, CellRecord}
 use Rattle.matrix_records.specs.Answers as matrix_records
 use Rattle.matrix_records.specs.Answers.{as_thing_at, as_cell_at}
@@ -47,8 +49,8 @@ use Rattle.request_bytes.specs.Outcome.RequestReading as request_reading
 use Rattle.request_list.specs.List.{Listed, read_list}
 use Rattle.engine.specs.Step.{answered, request_on}
 use Rattle.engine.specs.List.{Result, run_answer, of_run, refused_run, run_on, run_quietly}
-use Rattle.engine.specs.declared.answers.Ran.{Ran as Run}
-use Rattle.engine.specs.declared.answers.RunAnswer.TheVariants as ended
+use Rattle.engine.specs.Answers.{Ran as Run}
+use Rattle.engine.specs.Answers as ended
 use Rattle.totals.specs.Totals.{memory_totals, totals_of, of_totals}
 use Rattle.totals.specs.Outcome as total
 use Rattle.conversion.specs.Conversion.{conversion_fault}
@@ -60,7 +62,7 @@ use Rattle.agreement.proofs.FaultNumbers.{passed_fault, conversion_fault_lem, un
 use Rattle.agreement.proofs.ReadNumbers.{passed, passed_request}
 use Rattle.agreement.proofs.ReadNumbers.{matrix_only, matrix_rest_only, list_only}
 
--- ---- where success passes, and each refusal of an answer does, its number does
+-- ---- where success passes, and each refusal of an answer does, its number does: that of the fault of a number is this number
 module _ (ok : ℕ → Bool) (None-passes : T (ok 0)) where
   pub of_record_lem : (a : RecordAnswer) → T (passed_record ok a) → T (ok (of_record a).number)
   of_record_lem (record_answer.Record kind start len) t = None-passes
@@ -75,26 +77,26 @@ module _ (ok : ℕ → Bool) (None-passes : T (ok 0)) where
   of_request request_reading.End t = None-passes
   of_request (request_reading.Refused k at) t = t
 
-  pub of_head_lem : (r : Read ℕ Refusal Head) → T (fine (λ f. ok f.number) r) → T (ok (of_head_at (as_head_at r)).number)
+  pub of_head_lem : (r : Read ℕ Refusal Head) → T (fine (λ f. ok f.number) r) → T (ok (of_head_at (item_of r)).number)
   of_head_lem (got h next) t = None-passes
-  of_head_lem (fault f) t = t
+  of_head_lem (fault f) t = rw (numbered f.number) t
 
-  pub of_command : (r : Read ℕ Refusal Command) → T (fine (λ f. ok f.number) r) → T (ok (of_reading (as_command_at r).answer).number)
+  pub of_command : (r : Read ℕ Refusal Command) → T (fine (λ f. ok f.number) r) → T (ok (of_command_at (item_of r)).number)
   of_command (got c next) t = None-passes
-  of_command (fault f) t = t
+  of_command (fault f) t = rw (numbered f.number) t
 
   pub of_matrix_head : (kind : ℕ) (r : Read ℕ Refusal Stated) → T (fine (λ f. ok f.number) r) → T (ok (of_head (matrix_records.as_head_at kind r)).number)
   of_matrix_head kind (got st next) t = None-passes
-  of_matrix_head kind (fault f) t = t
+  of_matrix_head kind (fault f) t = rw (numbered f.number) t
 
   pub of_thing_lem : (kind : ℕ) (r : Read ℕ Refusal ThingRecord) → T (fine (λ f. ok f.number) r) → T (ok (of_thing (as_thing_at kind r)).number)
   of_thing_lem kind (got x next) t = None-passes
-  of_thing_lem kind (fault f) t = t
+  of_thing_lem kind (fault f) t = rw (numbered f.number) t
 
   pub of_cell_lem : (n : ℕ) (ids : List ℕ) (kind : ℕ) (r : Read ℕ Refusal CellRecord) → T (fine (λ f. ok f.number) r) →
       T (ok (of_cell (as_cell_at n ids kind r)).number)
   of_cell_lem n ids kind (got c next) t = None-passes
-  of_cell_lem n ids kind (fault f) t = t
+  of_cell_lem n ids kind (fault f) t = rw (numbered f.number) t
 
   of_run_lem : (n : ℕ) (a : Reading) → T (passed ok a) → T (ok (of_run (run_answer n a)).number)
   of_run_lem n (reading.Done next) t = None-passes

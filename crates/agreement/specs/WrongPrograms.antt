@@ -7,13 +7,13 @@ use Rattle.model.specs.Seats.{Matrix, stands_for}
 use Rattle.model.specs.Accepted.{accepted_scheme, accepted_matrix}
 use Rattle.model.specs.declared.Scheme.{Scheme}
 use Rattle.engine.specs.Step.{request_on}
-use Rattle.engine.specs.declared.answers.Stepped.{Stepped}
+use Rattle.engine.specs.Answers.{Stepped}
 use Rattle.scheme_bytes.specs.Write.{write_scheme}
 use Rattle.matrix_bytes.specs.Write.{write_matrix}
 use Rattle.records.specs.Outcome.Writing.{Writing}
 use Rattle.convert.specs.Convert.{converted_scheme, converted_cells, convert_scheme_into, convert_matrix_into}
-use Rattle.convert.specs.declared.answers.Conversion.{Conversion}
-use Rattle.convert.specs.declared.answers.SchemeConversion.{SchemeConversion}
+use Rattle.convert.specs.Outcome.Conversion.{Conversion}
+use Rattle.convert.specs.Outcome.SchemeConversion.{SchemeConversion}
 use Rattle.totals.specs.Totals.{paper_totals, totals_of}
 use Rattle.totals.specs.Outcome.{Outcome}
 
