@@ -13,11 +13,16 @@ use Rattle.model.specs.Seats.{Matrix}
 use Rattle.model.specs.Accepted.{head_fault, accepted_scheme, accepted_matrix}
 use Rattle.model.specs.declared.Head.{Head}
 use Rattle.model.specs.declared.Scheme.{Scheme}
+use Rattle.laws.proofs.Differ.{constructors_differ}
 use Rattle.laws.proofs.Bools.{is_true, is_false, from_true, and_left, and_right}
 use Rattle.model.proofs.HeldLaws.{held}
 use Rattle.accepted.specs.Answers.{as_checked}
-use Rattle.accepted.specs.declared.checked.Checked.TheVariants as checked
-use Rattle.accepted.proofs.SchemeLaws.{told_fine, told_fault}
+use Rattle.std.specs.Prelude.{Result, Ok, Err}
+use Rattle.faults.specs.Numbers.{fault_of}
+use Rattle.faults.specs.declared.Fault.{Fault as FaultNamed}
+use Rattle.faults.specs.declared.Fault.TheVariants.{NotAccepted}
+use Rattle.records.specs.Results.{written}
+use Rattle.convert.specs.Results.{conversion_result, scheme_result, cells_result}
 use Rattle.records.specs.Outcome.Writing.{Writing}
 use Rattle.records.specs.Outcome.Writing as writing
 use Rattle.scheme_bytes.specs.Write.{write_scheme}
@@ -26,10 +31,10 @@ use Rattle.matrix_bytes.proofs.RoundTrips.{head_passes}
 use Rattle.conversion.specs.Conversion.{conversion_fault, convertible, convert_scheme, convert_cells, convert_matrix}
 use Rattle.conversion.specs.Promises.{Converts}
 use Rattle.conversion.proofs.Lists.{few_rights}
-use Rattle.convert.specs.declared.answers.Conversion.{Conversion}
-use Rattle.convert.specs.declared.answers.Conversion.TheVariants.{Done, Refused}
-use Rattle.convert.specs.declared.answers.SchemeConversion.{SchemeConversion}
-use Rattle.convert.specs.Convert.{scheme_fault, matrix_fault, converted_by, converted_scheme, cells_by, converted_cells}
+use Rattle.convert.specs.Outcome.Conversion.{Conversion}
+use Rattle.convert.specs.Outcome.Conversion.{Done, Refused}
+use Rattle.convert.specs.Outcome.SchemeConversion.{SchemeConversion}
+use Rattle.convert.specs.Convert.{scheme_fault, matrix_fault, converted_by, converted_scheme, cells_by, converted_cells, written_by}
 use Rattle.convert.specs.Convert.{convert_scheme_into, convert_matrix_into}
 use Rattle.convert.specs.Inner.Parts.{convert_head}
 use Rattle.convert.proofs.SchemeLaws.{head_converted}
@@ -39,109 +44,120 @@ converts_if : (s : Scheme) → conversion_fault s ≡ none → T (convertible s)
 unfolding convertible passes
 converts_if s e = rw e tt
 
-pub convertible_if : (s : Scheme) → checked.Fine ≡ as_checked (conversion_fault s) → T (convertible s)
-convertible_if s e = converts_if s (told_fine (conversion_fault s) e)
+-- from what the check gave back to the fault that was checked
+fine_back : (f : Fault) → Ok tt ≡ as_checked f → f ≡ none
+fine_back none e = refl
+fine_back (some k) e = constructors_differ (cc)
+
+pub convertible_if : (s : Scheme) → Ok tt ≡ as_checked (conversion_fault s) → T (convertible s)
+convertible_if s e = converts_if s (fine_back (conversion_fault s) e)
+
+module _ {x : FaultNamed} where
+  scheme_stops : (s : Scheme) (f : Fault) → Err x ≡ as_checked f → Err x ≡ scheme_result (converted_by s f)
+  scheme_stops s none e = constructors_differ (cc)
+  scheme_stops s (some k) e = let g : x ≡ fault_of k = cc in ap Err g
+
+  cells_stop : (s : Scheme) (m : Matrix) (f : Fault) → Err x ≡ as_checked f →
+      ◌≡◌ {A = Result (Unit {0}) FaultNamed × List ℕ} (Err x, m.cells) (cells_result (cells_by s m f))
+  cells_stop s m none e = constructors_differ (cc)
+  cells_stop s m (some k) e = let g : x ≡ fault_of k = cc in rw g
 
 module _ (s : Scheme) where
-  pub scheme_27 : accepted_scheme s ≡ false → record { answer = Refused 27; scheme = s } ≡ converted_scheme s
-  unfolding converted_scheme scheme_fault
+  pub scheme_27 : accepted_scheme s ≡ false → Err NotAccepted ≡ scheme_result (converted_scheme s)
+  unfolding converted_scheme scheme_fault fault_of
   scheme_27 e = rw e
 
   module _ (a : accepted_scheme s ≡ true) where
-    pub scheme_refused : (k : ℕ) → checked.Fault k ≡ as_checked (conversion_fault s) → record { answer = Refused k; scheme = s } ≡ converted_scheme s
+    pub scheme_refused : {x : FaultNamed} → Err x ≡ as_checked (conversion_fault s) → Err x ≡ scheme_result (converted_scheme s)
     unfolding converted_scheme scheme_fault
-    scheme_refused k e = rw (a, told_fault (conversion_fault s) k e)
+    scheme_refused e = rw a (scheme_stops s (conversion_fault s) e)
 
-    pub scheme_done : checked.Fine ≡ as_checked (conversion_fault s) → (r : Scheme) → r ≡ convert_scheme s →
-        record { answer = Done; scheme = r } ≡ converted_scheme s
+    pub scheme_done : Ok tt ≡ as_checked (conversion_fault s) → (r : Scheme) → r ≡ convert_scheme s → Ok r ≡ scheme_result (converted_scheme s)
     unfolding converted_scheme scheme_fault
-    scheme_done e r f = rw (a, told_fine (conversion_fault s) e, f)
+    scheme_done e r f = rw (a, fine_back (conversion_fault s) e, f)
 
 -- ---- the cells of a matrix
 module _ (s : Scheme) (m : Matrix) where
-  pub cells_27 : accepted_scheme s ≡ false → ◌≡◌ {A = Conversion × List ℕ} (Refused 27, m.cells) (converted_cells s m)
-  unfolding converted_cells matrix_fault
+  abbrev Stored : Result (Unit {0}) FaultNamed → List ℕ → Type 0
+  Stored r cells = ◌≡◌ {A = Result (Unit {0}) FaultNamed × List ℕ} (r, cells) (cells_result (converted_cells s m))
+
+  pub cells_27 : accepted_scheme s && accepted_matrix s.head m ≡ false → Stored (Err NotAccepted) m.cells
+  unfolding converted_cells matrix_fault fault_of
   cells_27 e = rw e
 
-  module _ (a : accepted_scheme s ≡ true) where
-    pub cells_27_too : accepted_matrix s.head m ≡ false → ◌≡◌ {A = Conversion × List ℕ} (Refused 27, m.cells) (converted_cells s m)
+  module _ (a : accepted_scheme s ≡ true) (b : accepted_matrix s.head m ≡ true) where
+    pub cells_refused : {x : FaultNamed} → Err x ≡ as_checked (conversion_fault s) → Stored (Err x) m.cells
     unfolding converted_cells matrix_fault
-    cells_27_too e = rw (a, e)
+    cells_refused e = rw (a, b) (cells_stop s m (conversion_fault s) e)
 
-    module _ (b : accepted_matrix s.head m ≡ true) where
-      pub cells_refused : (k : ℕ) → checked.Fault k ≡ as_checked (conversion_fault s) →
-          ◌≡◌ {A = Conversion × List ℕ} (Refused k, m.cells) (converted_cells s m)
-      unfolding converted_cells matrix_fault
-      cells_refused k e = rw (a, b, told_fault (conversion_fault s) k e)
+    pub cells_done : Ok tt ≡ as_checked (conversion_fault s) → (cells : List ℕ) → cells ≡ convert_cells s.head m.things 0 m.cells → Stored (Ok tt) cells
+    unfolding converted_cells matrix_fault convert_matrix
+    cells_done e cells f = rw (a, b, fine_back (conversion_fault s) e, f)
 
-      pub cells_done : checked.Fine ≡ as_checked (conversion_fault s) → (cells : List ℕ) → cells ≡ convert_cells s.head m.things 0 m.cells →
-          ◌≡◌ {A = Conversion × List ℕ} (Done, cells) (converted_cells s m)
-      unfolding converted_cells matrix_fault convert_matrix
-      cells_done e cells f = rw (a, b, told_fine (conversion_fault s) e, f)
+-- ---- what a call tells of the fault, and a fault of what was checked
+by_refused : (out bytes : List ℕ) (s : Scheme) (f : Fault) {x : FaultNamed} → Err x ≡ scheme_result (converted_by s f) →
+    ◌≡◌ {A = Result ℕ FaultNamed × List ℕ} (Err x, out) (written (written_by out bytes f))
+by_refused out bytes s none e = constructors_differ (cc)
+by_refused out bytes s (some k) {x} e = let g : x ≡ fault_of k = cc in rw g
 
--- ---- what an answer tells of the fault, and a fault of what was checked
-by_refused : (s : Scheme) (f : Fault) (k : ℕ) → (converted_by s f).answer ≡ Refused k → f ≡ some k
-by_refused s none k e = cc
-by_refused s (some j) k e = cc
+by_done : (s : Scheme) (f : Fault) {r : Scheme} → Ok r ≡ scheme_result (converted_by s f) → (f ≡ none) × (r ≡ convert_scheme s)
+by_done s none e = (refl, cc)
+by_done s (some k) e = constructors_differ (cc)
 
-by_done : (s : Scheme) (f : Fault) → (converted_by s f).answer ≡ Done → f ≡ none
-by_done s none e = refl
-by_done s (some j) e = cc
+cells_by_refused : (out bytes : List ℕ) (s : Scheme) (m : Matrix) (f : Fault) {x : FaultNamed} → Err x ≡ (cells_result (cells_by s m f)).0 →
+    ◌≡◌ {A = Result ℕ FaultNamed × List ℕ} (Err x, out) (written (written_by out bytes f))
+cells_by_refused out bytes s m none e = constructors_differ (cc)
+cells_by_refused out bytes s m (some k) {x} e = let g : x ≡ fault_of k = cc in rw g
 
-cells_by_refused : (s : Scheme) (m : Matrix) (f : Fault) (k : ℕ) → (cells_by s m f).0 ≡ Refused k → f ≡ some k
-cells_by_refused s m none k e = cc
-cells_by_refused s m (some j) k e = cc
-
-cells_by_done : (s : Scheme) (m : Matrix) (f : Fault) → (cells_by s m f).0 ≡ Done → f ≡ none
+cells_by_done : (s : Scheme) (m : Matrix) (f : Fault) → Ok tt ≡ (cells_result (cells_by s m f)).0 → f ≡ none
 cells_by_done s m none e = refl
-cells_by_done s m (some j) e = cc
+cells_by_done s m (some k) e = constructors_differ (cc)
 
 past_27 : (b : Bool) (f : Fault) → cond b f (some 27) ≡ none → (b ≡ true) × (f ≡ none)
 past_27 true f e = (refl, e)
-past_27 false f e = (cc, cc)
+past_27 false f e = constructors_differ (cc)
 
 -- ---- as bytes
-module _ (out : List ℕ) (s : Scheme) (r : SchemeConversion) (e : r ≡ converted_scheme s) where
-  pub bytes_refused : (k : ℕ) → r.answer ≡ Refused k → ◌≡◌ {A = Writing × List ℕ} (writing.Refused k, out) (convert_scheme_into out s)
+module _ (out : List ℕ) (s : Scheme) where
+  pub bytes_refused : {x : FaultNamed} → Err x ≡ scheme_result (converted_scheme s) →
+      ◌≡◌ {A = Result ℕ FaultNamed × List ℕ} (Err x, out) (written (convert_scheme_into out s))
   unfolding converted_scheme convert_scheme_into
-  bytes_refused k f = rw (by_refused s (scheme_fault s) k (sym (ap (λ (x : SchemeConversion). x.answer) e) ∙ f))
+  bytes_refused e = by_refused out _ s (scheme_fault s) e
 
-  no_fault : r.answer ≡ Done → scheme_fault s ≡ none
-  unfolding converted_scheme
-  no_fault f = by_done s (scheme_fault s) (sym (ap (λ (x : SchemeConversion). x.answer) e) ∙ f)
-
-  scheme_is : scheme_fault s ≡ none → r.scheme ≡ convert_scheme s
-  unfolding converted_scheme
-  scheme_is f = ap (λ (x : SchemeConversion). x.scheme) e ∙ rw f
-
-  written : Converts → scheme_fault s ≡ none → write_scheme out (convert_scheme s) ≡ convert_scheme_into out s
+  scheme_written : Converts → scheme_fault s ≡ none → write_scheme out (convert_scheme s) ≡ convert_scheme_into out s
   unfolding write_scheme convert_scheme_into scheme_fault
-  written converts f =
+  scheme_written converts f =
       let (a, b) = past_27 (accepted_scheme s) (conversion_fault s) f in
       rw (is_true (accepted_scheme (convert_scheme s)) (converts.scheme s (from_true a) (converts_if s b)).0, f)
 
-  pub bytes_done : Converts → r.answer ≡ Done → (w : Writing) (out' : List ℕ) →
-      ◌≡◌ {A = Writing × List ℕ} (w, out') (write_scheme out r.scheme) → ◌≡◌ {A = Writing × List ℕ} (w, out') (convert_scheme_into out s)
-  bytes_done converts f w out' g = g ∙ ap (write_scheme out) (scheme_is (no_fault f)) ∙ written converts (no_fault f)
+  pub bytes_done : Converts → {r : Scheme} → Ok r ≡ scheme_result (converted_scheme s) → (w : Result ℕ FaultNamed × List ℕ) →
+      w ≡ written (write_scheme out r) → w ≡ written (convert_scheme_into out s)
+  unfolding converted_scheme
+  bytes_done converts e w g =
+      let (f, same) = by_done s (scheme_fault s) e in
+      g ∙ ap (λ (x : Scheme). written (write_scheme out x)) same ∙ ap written (scheme_written converts f)
 
 module _ (out : List ℕ) (s : Scheme) (m : Matrix) where
-  pub matrix_27 : (length m.cells ≡ 2304 → ⊥) → ◌≡◌ {A = Writing × List ℕ} (writing.Refused 27, out) (convert_matrix_into out s m)
-  unfolding convert_matrix_into matrix_fault
+  pub matrix_27 : (length m.cells ≡ 2304 → ⊥) → ◌≡◌ {A = Result ℕ FaultNamed × List ℕ} (Err NotAccepted, out) (written (convert_matrix_into out s m))
+  unfolding convert_matrix_into matrix_fault fault_of
   matrix_27 h = rw (is_false (accepted_matrix s.head m) (λ t. h (held s.head m t).cells.room), and-false)
 
 -- the call on a copy of the cells
-module _ (s : Scheme) (m : Matrix) (copy : List ℕ) (same : copy ≡ m.cells) (a : Conversion) (cells : List ℕ)
-    (told : ◌≡◌ {A = Conversion × List ℕ} (a, cells) (converted_cells s (record { things = m.things; cells = copy }))) where
-  e : ◌≡◌ {A = Conversion × List ℕ} (a, cells) (converted_cells s m)
+module _ (s : Scheme) (m : Matrix) (copy : List ℕ) (same : copy ≡ m.cells) {a : Result (Unit {0}) FaultNamed} {cells : List ℕ}
+    (told : ◌≡◌ {A = Result (Unit {0}) FaultNamed × List ℕ} (a, cells) (cells_result (converted_cells s (record { things = m.things; cells = copy })))) where
+  e : ◌≡◌ {A = Result (Unit {0}) FaultNamed × List ℕ} (a, cells) (cells_result (converted_cells s m))
   e = told ∙ rw same
 
-  no_matrix_fault : a ≡ Done → matrix_fault s m ≡ none
+  answer : a ≡ (cells_result (converted_cells s m)).0
+  answer = ap (λ (x : Result (Unit {0}) FaultNamed × List ℕ). x.0) e
+
+  no_matrix_fault : a ≡ Ok tt → matrix_fault s m ≡ none
   unfolding converted_cells
-  no_matrix_fault f = cells_by_done s m (matrix_fault s m) (sym (ap (λ (x : Conversion × List ℕ). x.0) e) ∙ f)
+  no_matrix_fault f = cells_by_done s m (matrix_fault s m) (sym f ∙ answer)
 
   cells_are : matrix_fault s m ≡ none → cells ≡ (convert_matrix s.head m).cells
   unfolding converted_cells
-  cells_are f = ap (λ (x : Conversion × List ℕ). x.1) e ∙ rw f
+  cells_are f = ap (λ (x : Result (Unit {0}) FaultNamed × List ℕ). x.1) e ∙ rw f
 
   all_passed : matrix_fault s m ≡ none → T (accepted_scheme s) × T (accepted_matrix s.head m) × (conversion_fault s ≡ none)
   unfolding matrix_fault
@@ -150,13 +166,13 @@ module _ (s : Scheme) (m : Matrix) (copy : List ℕ) (same : copy ≡ m.cells) (
       let t = from_true b in
       (and_left (accepted_scheme s) _ t, and_right (accepted_scheme s) _ t, g)
 
-  pub rights_few : a ≡ Done → s.head.rights ≤ 32
+  pub rights_few : a ≡ Ok tt → s.head.rights ≤ 32
   rights_few g = few_rights s (converts_if s (all_passed (no_matrix_fault g)).2)
 
   module _ (out : List ℕ) where
-    pub matrix_refused : (k : ℕ) → a ≡ Refused k → ◌≡◌ {A = Writing × List ℕ} (writing.Refused k, out) (convert_matrix_into out s m)
+    pub matrix_refused : {x : FaultNamed} → a ≡ Err x → ◌≡◌ {A = Result ℕ FaultNamed × List ℕ} (Err x, out) (written (convert_matrix_into out s m))
     unfolding converted_cells convert_matrix_into
-    matrix_refused k f = rw (cells_by_refused s m (matrix_fault s m) k (sym (ap (λ (x : Conversion × List ℕ). x.0) e) ∙ f))
+    matrix_refused f = cells_by_refused out _ s m (matrix_fault s m) (sym f ∙ answer)
 
     module _ (converts : Converts) where
       matrix_written : matrix_fault s m ≡ none → write_matrix_by_head out (convert_scheme s).head (convert_matrix s.head m) ≡ convert_matrix_into out s m
@@ -170,12 +186,11 @@ module _ (s : Scheme) (m : Matrix) (copy : List ℕ) (same : copy ≡ m.cells) (
             f,
           )
 
-      pub matrix_done : a ≡ Done → (h : Head) → h ≡ convert_head s.head → (w : Writing) (out' : List ℕ) →
-          ◌≡◌ {A = Writing × List ℕ} (w, out') (write_matrix_by_head out h (record { things = m.things; cells = cells })) →
-          ◌≡◌ {A = Writing × List ℕ} (w, out') (convert_matrix_into out s m)
+      pub matrix_done : a ≡ Ok tt → (h : Head) → h ≡ convert_head s.head → (w : Result ℕ FaultNamed × List ℕ) →
+          w ≡ written (write_matrix_by_head out h (record { things = m.things; cells = cells })) → w ≡ written (convert_matrix_into out s m)
       unfolding convert_matrix
-      matrix_done g h d w out' is =
+      matrix_done g h d w is =
           let f = no_matrix_fault g in
           let x = d ∙ head_converted s (all_passed f).0 in
           let y = cells_are f in
-          is ∙ rw (x, y) (matrix_written f)
+          is ∙ ap written (rw (x, y) (matrix_written f))

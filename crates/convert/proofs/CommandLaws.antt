@@ -28,23 +28,7 @@ use Rattle.laws.proofs.Filling.{Filling, begin, on, all_in}
 use Rattle.rights.specs.Numberings.{partner_of}
 use Rattle.command_bytes.proofs.Padded.{padded_lists}
 
--- ---- a test, with the partner that a call gave
-module _ (n : ℕ) (t : Test) where
-  pub test_present : t.present ≡ true → t ≡ convert_test n t
-  unfolding convert_test
-  test_present e = rw e
-
-  pub test_absent : t.present ≡ false → (p : Right) → p ≡ partner_of n t.right →
-      record { present = true; right = p; row = t.row; column = t.column } ≡ convert_test n t
-  unfolding convert_test
-  test_absent e p f = rw (e, ← f)
-
 -- ---- operations: each with its partner's behind it
-pub on_partner_lem : (n : ℕ) (o : Operation) (c : Code) (p : Right) → c ≡ opposite_of o.code → p ≡ partner_of n o.right →
-    record { code = c; right = p; row = o.row; column = o.column } ≡ on_partner n (opposite_of o.code) o
-unfolding on_partner
-on_partner_lem n o c p e f = rw (e, ← f)
-
 module _ (n : ℕ) where
   abbrev second : Operation → Operation
   second o = on_partner n (opposite_of o.code) o

@@ -18,7 +18,9 @@ use Rattle.model.specs.declared.Scheme.{Scheme}
 use Rattle.laws.proofs.Bools.{and_left, and_right, first_pass, then_pass, must_pass}
 use Rattle.model.proofs.Form.{all_at}
 use Rattle.accepted.specs.Answers.{as_checked}
-use Rattle.accepted.specs.declared.checked.Checked.TheVariants as checked
+use Rattle.std.specs.Prelude.{Ok, Err}
+use Rattle.faults.specs.Numbers.{fault_of}
+use Rattle.faults.specs.declared.Fault.TheVariants.{CreatesOrDestroys, TooManyRights, TooManyOperations}
 use Rattle.scheme_write.proofs.WriteLaws.{commands_there, command_small}
 use Rattle.conversion.specs.Conversion.{conversion_fault, convertible, convert_command, convert_scheme, keeps_all}
 use Rattle.convert.specs.Inner.Parts.{convert_head, Convertible}
@@ -26,31 +28,12 @@ use Rattle.laws.proofs.Filling.{Filling, changed_begin, changed_on, changed_all,
 use Rattle.model.specs.Arrays.{scheme_of}
 use Rattle.command_bytes.proofs.Padded.{no_command_lem}
 
--- ---- the three checks
+-- ---- what is asked of each command
 abbrev pub keeps : Command → Bool
 keeps c = keeps_all (operations_of c.operations)
 
 abbrev pub fits : Command → Bool
 fits c = leb c.operations.count 16
-
-module _ (s : Scheme) where
-  pub fault_20 : all keeps (commands_of s) ≡ false → checked.Fault 20 ≡ as_checked (conversion_fault s)
-  unfolding conversion_fault must ◌or_else◌
-  fault_20 e = rw e
-
-  module _ (k : all keeps (commands_of s) ≡ true) where
-    pub fault_21 : 32 < s.head.rights → checked.Fault 21 ≡ as_checked (conversion_fault s)
-    unfolding conversion_fault must ◌or_else◌
-    fault_21 h = rw (k, lt-leb s.head.rights 32 h)
-
-    module _ (h : s.head.rights ≤ 32) where
-      pub fault_22 : all fits (commands_of s) ≡ false → checked.Fault 22 ≡ as_checked (conversion_fault s)
-      unfolding conversion_fault must ◌or_else◌
-      fault_22 e = rw (k, le-leb s.head.rights 32 h, e)
-
-      pub no_fault : all fits (commands_of s) ≡ true → checked.Fine ≡ as_checked (conversion_fault s)
-      unfolding conversion_fault must ◌or_else◌
-      no_fault e = rw (k, le-leb s.head.rights 32 h, e)
 
 -- ---- the commands, of an accepted scheme
 module _ {A : Type 0} (f : A → Bool) (l : List A) (count : ℕ) (r : count ≤ length l) (t : T (all f (take count l))) where
@@ -60,9 +43,6 @@ module _ {A : Type 0} (f : A → Bool) (l : List A) (count : ℕ) (r : count ≤
 module _ (s : Scheme) (t : T (accepted_scheme s)) where
   pub in_range : (s.head.count ≤ 32) × (s.head.count ≤ length s.commands)
   in_range = commands_there s t
-
-  pub few_operations : (d : Command) (j : ℕ) → j < s.head.count → (get_or s.commands j d).operations.count ≤ 32
-  few_operations d j h = (command_small s t d j h).operations
 
   -- that converts
   module _ (v : T (convertible s)) where

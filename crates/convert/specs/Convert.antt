@@ -13,9 +13,9 @@ use Rattle.records.specs.Outcome.Writing.{Writing}
 use Rattle.records.specs.Outcome.Writing as writing
 use Rattle.scheme_bytes.specs.Write.{scheme_bytes}
 use Rattle.matrix_bytes.specs.Write.{matrix_bytes}
-use Rattle.convert.specs.declared.answers.Conversion.{Conversion}
-use Rattle.convert.specs.declared.answers.Conversion.TheVariants.{Done, Refused}
-use Rattle.convert.specs.declared.answers.SchemeConversion.{SchemeConversion}
+use Rattle.convert.specs.Outcome.Conversion.{Conversion}
+use Rattle.convert.specs.Outcome.Conversion.{Done, Refused}
+use Rattle.convert.specs.Outcome.SchemeConversion.{SchemeConversion}
 
 -- the first fault of a scheme handed in, and of a scheme with a matrix
 unfoldable pub scheme_fault : Scheme → Fault

@@ -2,7 +2,7 @@
 ghost use Rattle.std.specs.Prelude.{◌≡◌, map, ◌≤◌, T};
 ghost use Rattle.conversion.specs.Conversion.{convert_test, on_partner, convert_operations, convert_command, keeps_all};
 ghost use Rattle.convert.specs.Inner.Parts.{padded_tests, opposite_of, Convertible};
-ghost use Rattle.model.specs.Scheme.{tests_of, operations_of, keeps_things};
+ghost use Rattle.model.specs.Scheme.{tests_of, operations_of};
 ghost use Rattle.model.specs.Arrays.{tests_from, operations_from};
 
 use model::{Code, Command, Operation, Operations, Test, Tests};
@@ -11,20 +11,17 @@ use rights::{Parameter, Right};
 // ---- its tests
 
 // "r absent" becomes "partner present"; "r present" stays.
+#[tactic(auto, unfolding(conversion::specs::Conversion::convert_test))]
 fn convert_test(n: u8, t: Test) -> Test
     ensures { result ≡ convert_test n t }
 {
     if t.present {
         return t;
     }
-    let r = t.right;
-    let row = t.row;
-    let column = t.column;
     Test {
         present: true,
-        right: r.partner(n),
-        row,
-        column,
+        right: t.right.partner(n),
+        ..t
     }
 }
 
@@ -33,13 +30,9 @@ fn convert_tests(n: u8, t: Tests) -> Tests
     requires { (t.count ≤ 16) × T (padded_tests t) }
     ensures { result ≡ tests_from (map (convert_test n) (tests_of t)) }
 {
-    let count = t.count as usize;
     let mut list = t.list;
-    let mut j: usize = 0;
-    while j < count {
-        let one = t.list[j];
-        list[j] = convert_test(n, one);
-        j += 1;
+    for j in 0..t.count as usize {
+        list[j] = convert_test(n, t.list[j]);
     }
     Tests {
         count: t.count,
@@ -49,34 +42,14 @@ fn convert_tests(n: u8, t: Tests) -> Tests
 
 // ---- its operations
 
-// Whether it is an enter or a delete.
-fn is_change(c: Code) -> bool
-    ensures { result ≡ keeps_things c }
-{
-    match c {
-        Code::Enter => true,
-        Code::Delete => true,
-        Code::Create => false,
-        Code::Destroy => false,
-    }
-}
-
 // Whether none of them creates or destroys.
 pub(crate) fn keep_things(o: Operations) -> bool
-    requires { o.count ≤ 32 }
     ensures { result ≡ keeps_all (operations_of o) }
 {
-    let count = o.count as usize;
-    let mut j: usize = 0;
-    while j < count {
-        let one = o.list[j];
-        let code = one.code;
-        if !is_change(code) {
-            return false;
-        }
-        j += 1;
-    }
-    true
+    o.list
+        .iter()
+        .take(o.count as usize)
+        .all(|one| matches!(one.code, Code::Enter | Code::Delete))
 }
 
 // What is done to the partner of an operation's right: the opposite.
@@ -91,18 +64,14 @@ fn opposite(c: Code) -> Code
     }
 }
 
+#[tactic(auto, unfolding(conversion::specs::Conversion::on_partner))]
 fn on_partner(n: u8, o: Operation) -> Operation
     ensures { result ≡ on_partner n (opposite_of o.code) o }
 {
-    let code = o.code;
-    let right = o.right;
-    let row = o.row;
-    let column = o.column;
     Operation {
-        code: opposite(code),
-        right: right.partner(n),
-        row,
-        column,
+        code: opposite(o.code),
+        right: o.right.partner(n),
+        ..o
     }
 }
 
@@ -111,7 +80,6 @@ fn convert_operations(n: u8, o: Operations) -> Operations
     requires { (o.count ≤ 16) × T (keeps_all (operations_of o)) }
     ensures { result ≡ operations_from (convert_operations n (operations_of o)) }
 {
-    let count = o.count as usize;
     let none = Operation {
         code: Code::Enter,
         right: Right(0),
@@ -119,16 +87,16 @@ fn convert_operations(n: u8, o: Operations) -> Operations
         column: Parameter(0),
     };
     let mut list = [none; Operations::PLACES];
-    let mut j: usize = 0;
-    while j < count {
+    for j in 0..o.count as usize {
         let one = o.list[j];
         let other = on_partner(n, one);
         list[2 * j] = one;
         list[2 * j + 1] = other;
-        j += 1;
     }
-    let twice = 2 * o.count;
-    Operations { count: twice, list }
+    Operations {
+        count: 2 * o.count,
+        list,
+    }
 }
 
 // ---- all of it
@@ -137,12 +105,9 @@ pub(crate) fn convert_command(n: u8, c: Command) -> Command
     requires { Convertible c }
     ensures { result ≡ convert_command n c }
 {
-    let p = c.parameters;
-    let t = c.tests;
-    let o = c.operations;
     Command {
-        parameters: p,
-        tests: convert_tests(n, t),
-        operations: convert_operations(n, o),
+        parameters: c.parameters,
+        tests: convert_tests(n, c.tests),
+        operations: convert_operations(n, c.operations),
     }
 }

@@ -1,13 +1,11 @@
 // A scheme, or a matrix of it, converted: as values, and as bytes.
-#![tactic(auto)]
+#![tactic(auto, unfolding(faults::specs::Numbers::fault_of))]
 
-mod answers;
 mod bytes;
 mod command;
 mod matrix;
 mod scheme;
 
-pub use answers::{Conversion, SchemeConversion};
 pub use bytes::{convert_matrix, convert_scheme};
 pub use matrix::converted_cells;
 pub use scheme::converted_scheme;

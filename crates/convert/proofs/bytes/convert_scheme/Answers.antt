@@ -1,12 +1,13 @@
 -- The converted scheme is accepted, so nothing but room can refuse its writing.
+use Rattle.std.proofs.lemmas.Result.{err_from_is_err_and}
 use Rattle.conversion.proofs.Converted.{converts}
 use Rattle.convert.proofs.AnswerLaws.{bytes_refused, bytes_done}
 use Rattle.convert.proofs.bytes.convert_scheme.Goals as goal
 
-pub returns-in-Refused : goal.returns-in-Refused
-returns-in-Refused c =
-    bytes_refused _ _ _ c.converted_scheme-converted.ensures _ c.in-Refused.is
+pub returns-in_err-robot : goal.returns-in_err-robot
+returns-in_err-robot c =
+    let p = err_from_is_err_and c.from_residual.result c.from_residual.ensures.1 in
+    rw (p.1, p.2) (bytes_refused _ _ c.in_err-robot.ensures)
 
-pub returns-in-Done : goal.returns-in-Done
-returns-in-Done c =
-    bytes_done _ _ _ c.converted_scheme-converted.ensures converts c.in-Done.is _ _ c.write_scheme.ensures
+pub returns : goal.returns
+returns c = bytes_done _ _ converts c.in_ok-robot.ensures _ c.write_scheme.ensures

@@ -10,7 +10,4 @@ use Rattle.convert.proofs.command.convert_operations.Given as goal
 
 abbrev pub invariant-loop-j : goal.invariant-loop-j
 invariant-loop-j l =
-    (l.j ≤ l.count) × (l.o.count ≤ length l.o.list) × Filling (operations_from (convert_operations l.n (operations_of l.o))).list (replicate 32 none) l.list (2 * l.j)
-
-abbrev pub decreases-loop-j : goal.decreases-loop-j
-decreases-loop-j l = l.count - l.j
+    (l.j ≤ l.o.count) × (l.o.count ≤ length l.o.list) × Filling (operations_from (convert_operations l.n (operations_of l.o))).list (replicate 32 none) l.list (2 * l.j)

@@ -10,6 +10,3 @@ use Rattle.convert.proofs.command.convert_tests.Given as goal
 abbrev pub invariant-loop-j : goal.invariant-loop-j
 invariant-loop-j l =
     (l.t.count ≤ 16) × (l.j ≤ l.t.count) × Filling (tests_from (map (convert_test l.n) (tests_of l.t))).list l.t.list l.list l.j
-
-abbrev pub decreases-loop-j : goal.decreases-loop-j
-decreases-loop-j l = l.t.count - l.j

@@ -5,6 +5,3 @@ use Rattle.convert.proofs.matrix.convert_cells.Given as goal
 
 abbrev pub invariant-loop-i : goal.invariant-loop-i
 invariant-loop-i l = Converting l.h l.th l.initial.cells l.cells l.i
-
-abbrev pub decreases-loop-i : goal.decreases-loop-i
-decreases-loop-i l = 48 - l.i

@@ -2,7 +2,7 @@
 use borrow.Author.Rules.{rules}
 use Rattle.convert.proofs.CellLaws.{row_start, row_there, row_on, row_past, row_end}
 use Rattle.convert.proofs.matrix.convert_row.Goals as goal
-use Rattle.convert.proofs.matrix.convert_row.Goals.{else-x-ne0, then-x-ne0}
+use Rattle.convert.proofs.matrix.convert_row.Goals.{else-ids-j-ne0, then-ids-j-ne0}
 
 pub loop-j-init : goal.loop-j-init
 loop-j-init c = row_start _ _ _ (search rules) c.requires.1
@@ -14,7 +14,7 @@ convert_set-robot-requires c =
 
 pub loop-j-preserved : goal.loop-j-preserved
 loop-j-preserved c =
-    (elim c.if-x-ne0.branch [ then-x-ne0 w ↦ rw w.row-is (row_on c.loop-j.invariant (search rules) _ w.if-x-ne0.true w.convert_set-robot.ensures) | else-x-ne0 w ↦ rw w.row-is (row_past c.loop-j.invariant (search rules) w.if-x-ne0.false) ])
+    (elim c.if-ids-j-ne0.branch [ then-ids-j-ne0 w ↦ rw w.row-is (row_on c.loop-j.invariant (search rules) _ w.if-ids-j-ne0.true w.convert_set-robot.ensures) | else-ids-j-ne0 w ↦ rw w.row-is (row_past c.loop-j.invariant (search rules) w.if-ids-j-ne0.false) ])
 
 pub returns : goal.returns
 returns c = row_end c.loop-j.invariant (search rules)

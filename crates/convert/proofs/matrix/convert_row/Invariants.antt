@@ -5,6 +5,3 @@ use Rattle.convert.proofs.matrix.convert_row.Given as goal
 
 abbrev pub invariant-loop-j : goal.invariant-loop-j
 invariant-loop-j l = RowConverting l.n l.ids l.initial.row l.row l.j
-
-abbrev pub decreases-loop-j : goal.decreases-loop-j
-decreases-loop-j l = 48 - l.j

@@ -5,7 +5,4 @@ use Rattle.laws.proofs.Filling.{Filling}
 use Rattle.convert.proofs.scheme.convert_all.Given as goal
 
 abbrev pub invariant-loop-j : goal.invariant-loop-j
-invariant-loop-j l = (l.j ≤ l.count) × (l.count ≤ 32) × Filling (convert_scheme l.s).commands l.s.commands l.commands l.j
-
-abbrev pub decreases-loop-j : goal.decreases-loop-j
-decreases-loop-j l = l.count - l.j
+invariant-loop-j l = (l.j ≤ l.s.head.count) × (l.s.head.count ≤ 32) × Filling (convert_scheme l.s).commands l.s.commands l.commands l.j
