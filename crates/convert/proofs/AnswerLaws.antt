@@ -22,18 +22,13 @@ use Rattle.faults.specs.Numbers.{fault_of}
 use Rattle.faults.specs.declared.Fault.{Fault as FaultNamed}
 use Rattle.faults.specs.declared.Fault.TheVariants.{NotAccepted}
 use Rattle.records.specs.Results.{written}
-use Rattle.convert.specs.Results.{conversion_result, scheme_result, cells_result}
-use Rattle.records.specs.Outcome.Writing.{Writing}
-use Rattle.records.specs.Outcome.Writing as writing
+use Rattle.convert.specs.Results.{scheme_result, cells_result}
 use Rattle.scheme_bytes.specs.Write.{write_scheme}
 use Rattle.matrix_bytes.specs.Write.{write_matrix_by_head}
 use Rattle.matrix_bytes.proofs.RoundTrips.{head_passes}
 use Rattle.conversion.specs.Conversion.{conversion_fault, convertible, convert_scheme, convert_cells, convert_matrix}
 use Rattle.conversion.specs.Promises.{Converts}
 use Rattle.conversion.proofs.Lists.{few_rights}
-use Rattle.convert.specs.Outcome.Conversion.{Conversion}
-use Rattle.convert.specs.Outcome.Conversion.{Done, Refused}
-use Rattle.convert.specs.Outcome.SchemeConversion.{SchemeConversion}
 use Rattle.convert.specs.Convert.{scheme_fault, matrix_fault, converted_by, converted_scheme, cells_by, converted_cells, written_by}
 use Rattle.convert.specs.Convert.{convert_scheme_into, convert_matrix_into}
 use Rattle.convert.specs.Inner.Parts.{convert_head}

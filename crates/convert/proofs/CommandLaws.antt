@@ -3,17 +3,14 @@
 use Prim.Native.Nat.{ℕ, zero, suc, ◌+◌, ◌-◌, ◌*◌, ◌≤◌, ◌<◌}
 use native.Mathlib.Omega.{arith}
 use mathlib.Core.Path.{◌≡◌, refl, sym, ap, ◌∙◌, subst}
-use mathlib.Core.Bool.{true, false}
 use mathlib.Core.List.{List, [], ◌∷◌, ◌++◌, map}
 use lib.Dec.{T}
 use lib.ListN.{length, take, drop, set, get_or, replicate, length-append, length-replicate, replicate-append-replicate, get_or-append}
 use lib.Seq.{length-take-le, get_or-take, drop_at}
-use Rattle.rights.specs.declared.Right.{Right}
 use Rattle.laws.specs.Check.{all}
 use Rattle.model.specs.Scheme.{parameters_of, tests_of, operations_of, keeps_things}
 use Rattle.model.specs.Arrays.{operation, command_of, tests_from, operations_from}
 use Rattle.model.specs.Accepted.{padded_command}
-use Rattle.model.specs.declared.Test.{Test}
 use Rattle.model.specs.declared.Tests.{Tests}
 use Rattle.model.specs.declared.Code.{Code}
 use Rattle.model.specs.declared.Code.TheVariants.{Enter, Delete, Create, Destroy}
@@ -25,7 +22,6 @@ use Rattle.conversion.specs.Conversion.{convert_test, on_partner, convert_as, co
 use Rattle.conversion.proofs.SchemeAccepted.{length_operations}
 use Rattle.convert.specs.Inner.Parts.{padded_tests, opposite_of, Convertible}
 use Rattle.laws.proofs.Filling.{Filling, begin, on, all_in}
-use Rattle.rights.specs.Numberings.{partner_of}
 use Rattle.command_bytes.proofs.Padded.{padded_lists}
 
 -- ---- operations: each with its partner's behind it

@@ -3,13 +3,12 @@
 use Prim.Native.Nat.{ℕ, ◌+◌, ◌≤◌, ◌<◌}
 use native.Mathlib.Omega.{arith}
 use mathlib.Core.Path.{◌≡◌, ◌∙◌}
-use mathlib.Core.Bool.{Bool, true, false}
+use mathlib.Core.Bool.{Bool}
 use mathlib.Core.List.{List}
 use lib.Dec.{T, leb, leb→le}
 use lib.ListN.{length, take, set, get_or}
 use lib.Seq.{length-take-le, get_or-take}
-use borrow.Author.Tests.{le-leb, lt-leb}
-use Rattle.laws.specs.Check.{◌or_else◌, must, all, padded}
+use Rattle.laws.specs.Check.{all, padded}
 use Rattle.model.specs.Scheme.{operations_of, commands_of}
 use Rattle.model.specs.Accepted.{zero_command, accepted_command, accepted_scheme}
 use Rattle.model.specs.declared.Command.{Command}
@@ -17,10 +16,6 @@ use Rattle.model.specs.declared.Head.{Head}
 use Rattle.model.specs.declared.Scheme.{Scheme}
 use Rattle.laws.proofs.Bools.{and_left, and_right, first_pass, then_pass, must_pass}
 use Rattle.model.proofs.Form.{all_at}
-use Rattle.accepted.specs.Answers.{as_checked}
-use Rattle.std.specs.Prelude.{Ok, Err}
-use Rattle.faults.specs.Numbers.{fault_of}
-use Rattle.faults.specs.declared.Fault.TheVariants.{CreatesOrDestroys, TooManyRights, TooManyOperations}
 use Rattle.scheme_write.proofs.WriteLaws.{commands_there, command_small}
 use Rattle.conversion.specs.Conversion.{conversion_fault, convertible, convert_command, convert_scheme, keeps_all}
 use Rattle.convert.specs.Inner.Parts.{convert_head, Convertible}

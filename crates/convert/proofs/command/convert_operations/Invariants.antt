@@ -1,5 +1,5 @@
 -- After j turns the first 2 * j operations are the first j converted; behind them stand zeros.
-use Prim.Native.Nat.{◌*◌, ◌-◌, ◌≤◌}
+use Prim.Native.Nat.{◌*◌, ◌≤◌}
 use lib.ListN.{length, replicate}
 use Rattle.conversion.specs.Conversion.{convert_operations}
 use Rattle.laws.proofs.Filling.{Filling}

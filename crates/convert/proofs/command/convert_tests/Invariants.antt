@@ -1,5 +1,5 @@
 -- After j turns the first j tests are the converted ones; behind those in use stand zeros before and after.
-use Prim.Native.Nat.{◌-◌, ◌≤◌}
+use Prim.Native.Nat.{◌≤◌}
 use mathlib.Core.List.{map}
 use Rattle.conversion.specs.Conversion.{convert_test}
 use Rattle.laws.proofs.Filling.{Filling}

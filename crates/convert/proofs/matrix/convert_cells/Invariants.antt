@@ -1,5 +1,4 @@
 -- After i turns the first i rows are the converted ones.
-use Prim.Native.Nat.{◌-◌}
 use Rattle.convert.proofs.CellLaws.{Converting}
 use Rattle.convert.proofs.matrix.convert_cells.Given as goal
 

@@ -1,5 +1,4 @@
 -- After j turns the first j cells of the row are the converted ones.
-use Prim.Native.Nat.{◌-◌}
 use Rattle.convert.proofs.CellLaws.{RowConverting}
 use Rattle.convert.proofs.matrix.convert_row.Given as goal
 

@@ -8,7 +8,7 @@ use Rattle.convert.proofs.matrix.converted_cells.Goals as goal
 use Rattle.convert.proofs.matrix.converted_cells.Goals.{then-not-scheme_accepted-via-then-not-scheme_accepted, then-not-scheme_accepted-via-else-not-scheme_accepted+then-not-matrix_accepted}
 
 pub returns-then-not-scheme_accepted : goal.returns-then-not-scheme_accepted
-returns-then-not-scheme_accepted c = 
+returns-then-not-scheme_accepted c =
     cells_27 _ _ (elim c.then-not-scheme_accepted.branch [
       | then-not-scheme_accepted-via-then-not-scheme_accepted w ↦ grind (arith, tests)
       | then-not-scheme_accepted-via-else-not-scheme_accepted+then-not-matrix_accepted w ↦ grind (arith, tests)

@@ -1,5 +1,5 @@
 -- After j turns the first j commands are the converted ones; behind those in use stand zeros before and after.
-use Prim.Native.Nat.{◌-◌, ◌≤◌}
+use Prim.Native.Nat.{◌≤◌}
 use Rattle.conversion.specs.Conversion.{convert_scheme}
 use Rattle.laws.proofs.Filling.{Filling}
 use Rattle.convert.proofs.scheme.convert_all.Given as goal
