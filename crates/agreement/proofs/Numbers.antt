@@ -23,8 +23,7 @@ use Rattle.records.specs.Outcome.Reading as reading
 use Rattle.records.proofs.Faults.{only_front}
 use Rattle.command_bytes.specs.Read.{head_at, command_at}
 use Rattle.command_bytes.specs.Answers.{read_head, read_command, of_head_at, of_command_at}
-use Rattle.scheme_bytes.specs.Answers.{read_scheme}
-use Rattle.scheme_bytes.specs.Answers.{SchemeAnswer}
+use Rattle.scheme_bytes.specs.Answers.{read_scheme, SchemeAnswer}
 use Rattle.scheme_bytes.specs.Write.{scheme_bytes, write_scheme}
 use Rattle.matrix_records.specs.Content.{listed}
 use Rattle.matrix_records.specs.Read.{head, thing, cell}
