@@ -1,14 +1,19 @@
 -- A run of what is accepted is neither refused as a whole (27) nor short of room (9), and the texts of its parts are the whole text, which is so short
 -- that its length is the position behind it. Assumes nothing.
-use Prim.Native.Nat.{ℕ, ◌+◌, ◌*◌, ◌≤◌}
+use Prim.Native.Nat.{ℕ, ◌+◌, ◌*◌, ◌≤◌, ◌<◌}
 use native.Mathlib.Omega.{arith}
 use mathlib.Core.Path.{◌≡◌, refl, sym, ap, ◌∙◌}
 use mathlib.Core.List.{List, [], ◌∷◌, ◌++◌, append_assoc}
 use lib.Dec.{T}
-use lib.ListN.{length, take, drop, replicate, length-append, length-take}
-use lib.Seq.{sets}
+use lib.ListN.{length, get_or, take, drop, replicate, length-append, length-take}
+use lib.Seq.{sets, get_or-take}
+use native.Mathlib.Decide.{dec_lt}
 use borrow.Author.Tests.{le-leb}
+use Rattle.std.specs.Prelude.{Result, Ok, Err}
+use Rattle.std.proofs.lemmas.List.{get_or_past}
 use Rattle.laws.proofs.Bools.{is_true}
+use Rattle.laws.proofs.Differ.{constructors_differ}
+use Rattle.faults.specs.Numbers.{number_of}
 use Rattle.model.specs.Answers.{reply_each, reply_bytes, reply_width, replies_in}
 use Rattle.model.specs.Request.{run, answers}
 use Rattle.model.specs.Seats.{Matrix, matrix_of, no_things, seats}
@@ -19,33 +24,33 @@ use Rattle.model.specs.declared.Scheme.{Scheme}
 use Rattle.model.specs.declared.Things.{Things}
 use Rattle.records.specs.Bytes.{each_bytes}
 use Rattle.records.specs.Writing.{placed}
-use Rattle.records.specs.Told.{of_reading, reading_place}
+use Rattle.records.specs.Results.{refused, reading_result}
+use Rattle.records.specs.declared.Refused.{Refused}
 use Rattle.records.specs.Outcome.Reading.{Reading}
 use Rattle.records.specs.Outcome.Reading as reading
 use Rattle.lines.specs.Put.{largest, put_text}
 use Rattle.lines.proofs.PutLaws.{from_start, put_then}
 use Rattle.lines.proofs.LineLaws.{few_in_line}
-use Rattle.scheme_bytes.specs.Answers.{read_scheme}
-use Rattle.scheme_bytes.specs.Answers.{SchemeAnswer}
-use Rattle.matrix_bytes.specs.Answers.{read_matrix}
+use Rattle.scheme_bytes.specs.Answers.{SchemeAnswer, read_scheme, scheme_result}
+use Rattle.matrix_bytes.specs.Answers.{read_matrix, matrix_result}
 use Rattle.matrix_bytes.specs.MatrixAnswer.{MatrixAnswer}
-use Rattle.engine.specs.List.{run_answer, Result, run_on}
+use Rattle.engine.specs.List.{run_answer, run_on}
+use Rattle.engine.specs.Given.{Given, gives}
 use Rattle.request_list.specs.List.{read_list}
-use Rattle.engine.specs.declared.answers.Ran.{Ran}
 use Rattle.totals.specs.Totals.{totals_of}
 use Rattle.totals.specs.Outcome as totals
 use Rattle.printout.specs.Text.{heading, bad_line, request_lines, ending_line, end_line, run_text, answers_text, input, on_matrix, matrix_text, on_scheme, play_text}
 use Rattle.printout.specs.Inner.Ending.{list_text}
 use Rattle.printout.specs.declared.text.Columns.TheVariants.{ToTest, ToSteps}
 use Rattle.request_list.proofs.ListLaws.{few_requests}
-use Rattle.printout.proofs.RequestLaws.{few_lines, few_bad, few_ending, lines_more}
+use Rattle.printout.proofs.RequestLaws.{few_lines, few_bad, few_ending, lines_more, refusal_line}
+use Rattle.printout.proofs.ReadLaws.{accepted_read}
 use Rattle.engine.proofs.ListLaws.{replies_stored}
 
 -- ---- a run of an accepted matrix, with room for a reply per byte
 
 module _ (s : Scheme) (m : Matrix) (ok : T (accepted_scheme s)) (of : T (accepted_matrix s.head m)) (bytes buffer : List ℕ)
-    (room : reply_width * length bytes ≤ length buffer) (ran : Ran) (cells replies : List ℕ)
-    (e : record { ran = ran; cells = cells; replies = replies } ≡ run_on s m bytes buffer) where
+    (room : reply_width * length bytes ≤ length buffer) (ran : Given) (e : ran ≡ gives (run_on s m bytes buffer)) where
   abbrev after : Matrix
   after = run seats s m (read_list bytes).requests
 
@@ -55,32 +60,38 @@ module _ (s : Scheme) (m : Matrix) (ok : T (accepted_scheme s)) (of : T (accepte
   abbrev stored : List ℕ
   stored = each_bytes reply_bytes list
 
-  abbrev given : Result
-  given = record { ran = ran; cells = cells; replies = replies }
+  abbrev things : Things
+  things = ran.1
 
-  carried_out : given ≡ record {
+  abbrev cells : List ℕ
+  cells = ran.2
+
+  abbrev replies : List ℕ
+  replies = ran.3
+
+  carried_out : ran ≡ gives (record {
     ran = record { answer = run_answer (length (read_list bytes).requests) (read_list bytes).ending; things = after.things };
     cells = after.cells;
     replies = placed buffer 0 stored;
-  }
+  })
   unfolding run_on
   carried_out =
       let fits = le-leb (reply_width * length (read_list bytes).requests) (length buffer) (omega (arith, few_requests bytes, room)) in
       e ∙ rw (is_true (accepted_scheme s) ok, is_true (accepted_matrix s.head m) of, fits)
 
-  now_is : matrix_of ran.things cells ≡ after
-  now_is = ap (λ (r : Result). matrix_of r.ran.things r.cells) carried_out
+  now_is : matrix_of things cells ≡ after
+  now_is = ap (λ (r : Given). matrix_of r.1 r.2) carried_out
 
   lines_are : list_text ToTest 0 (read_list bytes) (replies_in replies) ≡ list_text ToTest 0 (read_list bytes) list
   unfolding placed
   lines_are =
       let behind = drop (0 + length stored) buffer in
-      let n : replies ≡ stored ++ behind = ap (λ (r : Result). r.replies) carried_out in
+      let n : replies ≡ stored ++ behind = ap (λ (r : Given). r.3) carried_out in
       rw (n, replies_stored list behind, lines_more ToTest 0 s m (read_list bytes).requests (replies_in behind))
 
   pub printed : (out : List ℕ) → length out ≤ largest → {p : ℕ} {first : List ℕ} → ◌≡◌ {A = ℕ × List ℕ} (p, first) (put_text out 0 (heading ToTest))
       → {q : ℕ} {second : List ℕ} → ◌≡◌ {A = ℕ × List ℕ} (q, second) (put_text first p (list_text ToTest 0 (read_list bytes) (replies_in replies)))
-      → (t : totals.Outcome) → t ≡ totals_of s (matrix_of ran.things cells)
+      → (t : totals.Outcome) → t ≡ totals_of s (matrix_of things cells)
       → {r : ℕ} {third : List ℕ} → ◌≡◌ {A = ℕ × List ℕ} (r, third) (put_text second q (end_line t)) → (r, third) ≡ put_text out 0 (run_text s m (read_list bytes))
   unfolding run_text
   printed out far a b t f c =
@@ -142,51 +153,82 @@ answers_printed requests stored front is out far a b =
     rw is (sym (append_assoc (heading ToSteps) (request_lines ToSteps 0 l.requests (replies_in stored)) (ending_line l.ending))) in
     b ∙ put_then out 0 (heading ToSteps) a far _ ∙ ap (put_text out 0) text ∙ from_start out _ (few_answers requests stored)
 
--- ---- a matrix and a scheme that were read, or weren't
+-- ---- a scheme and a matrix that were read, or weren't
 
--- the line of a refusal, from the number and the position that the reading tells
-abbrev Tells : Reading → ℕ → ℕ → Type 0
-Tells r at k = (at ≡ reading_place r) × (k ≡ (of_reading r).number)
+-- the line of a refusal, from the fault and the position that the reading gave
+bad_line_lem : (f : Reading → List ℕ) → ((k at : ℕ) → f (reading.Refused k at) ≡ bad_line at k) → (r : Reading) (x : Refused)
+    → reading_result r ≡ Err x → bad_line x.at (number_of x.fault) ≡ f r
+bad_line_lem f is (reading.Done next) x e = constructors_differ (cc)
+bad_line_lem f is (reading.Refused k at) x e = let g : refused k at ≡ x = cc in refusal_line k at (sym g) ∙ sym (is k at)
 
-bad_line_lem : (f : Reading → List ℕ) → ((k at : ℕ) → f (reading.Refused k at) ≡ bad_line at k) → (r : Reading) (number place : ℕ)
-    → r ≡ reading.Refused number place → (at k : ℕ) → Tells r at k → bad_line at k ≡ f r
-bad_line_lem f is r number place e at k (g, h) = rw (g, h, e) (sym (is number place))
+read_back : (r : Reading) {next : ℕ} → reading_result r ≡ Ok next → r ≡ reading.Done next
+read_back (reading.Done n) {next} e = let f : n ≡ next = cc in ap reading.Done f
+read_back (reading.Refused k at) e = constructors_differ (cc)
 
-module _ (s : Scheme) (bytes : List ℕ) (things : Things) (none : things ≡ no_things) (a : MatrixAnswer) (cells : List ℕ)
-    (e : ◌≡◌ {A = MatrixAnswer × List ℕ} (a, cells) (read_matrix bytes s things (replicate 2304 0))) (requests : List ℕ) where
-  matrix_text_lem : on_matrix s requests (a, cells) a.answer ≡ matrix_text s bytes requests
-  unfolding matrix_text
-  matrix_text_lem = rw (← none, ← e)
+module _ (scheme matrix requests : List ℕ) (front : List ℕ) (is : front ≡ input scheme) (table : Scheme) (none : table ≡ no_scheme)
+    (now : Result ℕ Refused × Scheme) (at_front : now ≡ scheme_result (read_scheme front table)) where
+  e : now ≡ scheme_result (read_scheme (input scheme) no_scheme)
+  e = at_front ∙ rw (is, none)
 
-  pub matrix_good : (next : ℕ) → a.answer ≡ reading.Done next → run_text s (matrix_of a.things cells) (read_list requests) ≡ matrix_text s bytes requests
-  matrix_good next f = ap (on_matrix s requests (a, cells)) (sym f) ∙ matrix_text_lem
+  abbrev a : SchemeAnswer
+  a = read_scheme (input scheme) no_scheme
 
-  pub matrix_bad : (number place : ℕ) → a.answer ≡ reading.Refused number place → (at k : ℕ) → Tells a.answer at k
-      → bad_line at k ≡ matrix_text s bytes requests
-  matrix_bad number place f at k g = bad_line_lem (on_matrix s requests (a, cells)) (λ k at. refl) a.answer number place f at k g ∙ matrix_text_lem
-
-module _ (scheme matrix requests front : List ℕ) (is : front ≡ input scheme) (table : Scheme) (none : table ≡ no_scheme) (a : SchemeAnswer)
-    (e : a ≡ read_scheme front table) where
-  -- from the start on, the position behind the text is its length
-  abbrev Told : List ℕ → ℕ → List ℕ → Type 0
-  Told out r new = ◌≡◌ {A = ℕ × List ℕ} (r, new) (length (play_text scheme matrix requests), sets out 0 (play_text scheme matrix requests))
-
-  told : (out : List ℕ) {r : ℕ} {new : List ℕ} → ◌≡◌ {A = ℕ × List ℕ} (r, new) (put_text out 0 (play_text scheme matrix requests)) → Told out r new
-  told out b = b ∙ from_start out _ (few_play scheme matrix requests)
-
-  scheme_text : on_scheme a.scheme (input matrix) (input requests) a.answer ≡ play_text scheme matrix requests
+  pub scheme_bad : (x : Refused) → now.0 ≡ Err x → bad_line x.at (number_of x.fault) ≡ play_text scheme matrix requests
   unfolding play_text
-  scheme_text = rw (← none, ← is, ← e)
+  scheme_bad x f =
+      bad_line_lem (on_scheme a.scheme (input matrix) (input requests)) (λ k at. refl) a.answer x
+      (sym (ap (λ (y : Result ℕ Refused × Scheme). y.0) e) ∙ f)
 
-  pub scheme_good : (next : ℕ) → a.answer ≡ reading.Done next → (m q : List ℕ) → m ≡ input matrix → q ≡ input requests
-      → (out : List ℕ) {r : ℕ} {new : List ℕ} → ◌≡◌ {A = ℕ × List ℕ} (r, new) (put_text out 0 (matrix_text a.scheme m q)) → Told out r new
-  scheme_good next f m q g h out b =
-      let t : matrix_text a.scheme m q ≡ play_text scheme matrix requests =
-      rw (g, h) (ap (on_scheme a.scheme (input matrix) (input requests)) (sym f) ∙ scheme_text) in
-      told out (b ∙ ap (put_text out 0) t)
+  module _ (next : ℕ) (f : now.0 ≡ Ok next) where
+    scheme_good : matrix_text now.1 (input matrix) (input requests) ≡ play_text scheme matrix requests
+    unfolding play_text
+    scheme_good =
+        let g = read_back a.answer (sym (ap (λ (y : Result ℕ Refused × Scheme). y.0) e) ∙ f) in
+        rw (e, g)
 
-  pub scheme_bad : (number place : ℕ) → a.answer ≡ reading.Refused number place → (at k : ℕ) → Tells a.answer at k
-      → (out : List ℕ) {r : ℕ} {new : List ℕ} → ◌≡◌ {A = ℕ × List ℕ} (r, new) (put_text out 0 (bad_line at k)) → Told out r new
-  scheme_bad number place f at k g out b =
-      let t = bad_line_lem (on_scheme a.scheme (input matrix) (input requests)) (λ k at. refl) a.answer number place f at k g in
-      told out (b ∙ ap (put_text out 0) (t ∙ scheme_text))
+    module _ (second : List ℕ) (second_is : second ≡ input matrix) (things : Things) (free : things ≡ no_things)
+        (there : Result ℕ Refused × Things × List ℕ) (at_second : there ≡ matrix_result (read_matrix second now.1 things (replicate 2304 0))) where
+      h : there ≡ matrix_result (read_matrix (input matrix) now.1 no_things (replicate 2304 0))
+      h = at_second ∙ rw (second_is, free)
+
+      abbrev m : MatrixAnswer × List ℕ
+      m = read_matrix (input matrix) now.1 no_things (replicate 2304 0)
+
+      pub matrix_bad : (x : Refused) → there.0 ≡ Err x → bad_line x.at (number_of x.fault) ≡ play_text scheme matrix requests
+      unfolding matrix_text
+      matrix_bad x i =
+          bad_line_lem (on_matrix now.1 (input requests) m) (λ k at. refl) m.0.answer x
+          (sym (ap (λ (y : Result ℕ Refused × Things × List ℕ). y.0) h) ∙ i)
+          ∙ scheme_good
+
+      module _ (behind : ℕ) (i : there.0 ≡ Ok behind) where
+        done : m.0.answer ≡ reading.Done behind
+        done = read_back m.0.answer (sym (ap (λ (y : Result ℕ Refused × Things × List ℕ). y.0) h) ∙ i)
+
+        pub accepted : ((j : ℕ) → get_or second j 0 < 256) → T (accepted_scheme now.1) × T (accepted_matrix now.1.head (matrix_of there.1 there.2))
+        accepted low =
+            let seen = accepted_read now.1 (input matrix) no_things (rw second_is at low) behind done in
+            rw h seen
+
+        pub matrix_good : (third : List ℕ) → third ≡ input requests
+            → run_text now.1 (matrix_of there.1 there.2) (read_list third) ≡ play_text scheme matrix requests
+        unfolding matrix_text
+        matrix_good third third_is = rw (third_is, h) (ap (on_matrix now.1 (input requests) m) (sym done) ∙ scheme_good)
+
+-- the text from the start of the output on: the position behind it is its length
+pub told : (scheme matrix requests out : List ℕ) {r : ℕ} {new : List ℕ}
+    → ◌≡◌ {A = ℕ × List ℕ} (r, new) (put_text out 0 (play_text scheme matrix requests))
+    → ◌≡◌ {A = ℕ × List ℕ} (r, new) (length (play_text scheme matrix requests), sets out 0 (play_text scheme matrix requests))
+told scheme matrix requests out b = b ∙ from_start out _ (few_play scheme matrix requests)
+
+pub few_input : (bytes front : List ℕ) → front ≡ input bytes → length front ≤ 65536
+unfolding input
+few_input bytes front is = rw is (omega (arith, length-take 65536 bytes))
+
+pub low_input : (bytes front : List ℕ) → front ≡ input bytes → ((j : ℕ) → get_or bytes j 0 < 256) → (j : ℕ) → get_or front j 0 < 256
+unfolding input
+low_input bytes front is low j = rw is (by (dec_lt j 65536))
+  where
+    by : Dec (j < 65536) → get_or (take 65536 bytes) j 0 < 256
+    by (yes near) = rw (get_or-take 65536 bytes j 0 near) (low j)
+    by (no beyond) = rw (get_or_past (take 65536 bytes) j 0 (omega (arith, beyond, length-take 65536 bytes))) (omega arith)

@@ -1,15 +1,17 @@
 // The words of the printout around its numbers.
 ghost use Rattle.std.specs.Prelude.{ℕ, ◌≡◌, List};
+ghost use Rattle.faults.specs.Numbers.{number_of};
 ghost use Rattle.lines.specs.Put.{put_text};
 ghost use Rattle.totals.specs.Outcome.{outcome_of};
 ghost use Rattle.printout.specs.Text.{heading, bad_line, request_line, end_line};
 
 use faults::Fault;
 use model::Reply;
+use records::Refused;
 use totals::Totals;
 
 // How far a request's line goes: `play` prints up to the test's place, `run` the steps too.
-#[derive(Clone, Copy)]
+#[derive(Clone, Copy, Debug, PartialEq, Eq)]
 pub enum Columns {
     ToTest,
     ToSteps,
@@ -24,11 +26,11 @@ pub(crate) fn put_heading(out: &mut [u8], columns: Columns) -> usize
     }
 }
 
-pub(crate) fn put_bad(out: &mut [u8], at: usize, position: usize, number: u8) -> usize
-    ensures { ◌≡◌ {A = ℕ × List ℕ} (result, out.new) (put_text out.old at (bad_line position number)) }
+pub(crate) fn put_bad(out: &mut [u8], at: usize, refused: Refused) -> usize
+    ensures { ◌≡◌ {A = ℕ × List ℕ} (result, out.new) (put_text out.old at (bad_line refused.at (number_of refused.fault))) }
 {
     let p = lines::put_text(out, at, b"bad ");
-    lines::put_line(out, p, &[position as u64, number as u64])
+    lines::put_line(out, p, &[refused.at as u64, refused.fault.number() as u64])
 }
 
 // A request's place in its list, its command, its result, its test's place, and its steps.
@@ -55,23 +57,20 @@ pub(crate) fn put_request(
     }
 }
 
-fn put_counted(out: &mut [u8], at: usize, totals: Totals) -> usize
-    ensures { ◌≡◌ {A = ℕ × List ℕ} (result, out.new) (put_text out.old at (end_line (outcome_of (Ok totals)))) }
-{
-    let Totals {
-        things,
-        cells,
-        entries,
-    } = totals;
-    let p = lines::put_text(out, at, b"end ");
-    lines::put_line(out, p, &[things as u64, cells as u64, entries as u64])
-}
-
 pub(crate) fn put_end(out: &mut [u8], at: usize, totals: Result<Totals, Fault>) -> usize
     ensures { ◌≡◌ {A = ℕ × List ℕ} (result, out.new) (put_text out.old at (end_line (outcome_of totals))) }
 {
     match totals {
-        Ok(totals) => put_counted(out, at, totals),
-        Err(fault) => put_bad(out, at, 0, fault.number()),
+        Ok(
+            Totals {
+                things,
+                cells,
+                entries,
+            },
+        ) => {
+            let p = lines::put_text(out, at, b"end ");
+            lines::put_line(out, p, &[things as u64, cells as u64, entries as u64])
+        }
+        Err(fault) => put_bad(out, at, Refused { fault, at: 0 }),
     }
 }

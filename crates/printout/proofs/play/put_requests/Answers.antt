@@ -1,40 +1,38 @@
 -- `play::put_requests` meets its contract: a turn puts a request's line, and what is left are the lines from the next request on.
 -- Assumes nothing.
 use native.Mathlib.Omega.{arith}
-use mathlib.Core.Path.{◌∙◌}
-use Rattle.lines.proofs.PutLaws.{same_room}
-use Rattle.printout.proofs.RequestLaws.{printing_start, printing_none, printing_stop, printing_on}
-use Rattle.request_bytes.proofs.Answered.{taken}
+use mathlib.Core.Path.{◌≡◌, refl, sym, ap, ◌∙◌}
+use Rattle.std.specs.Prelude.{Ok}
+use Rattle.request_bytes.specs.Read.{read_request}
+use Rattle.request_bytes.specs.Outcome.RequestReading.{Done}
+use Rattle.request_bytes.proofs.Answered.{Taken, taken}
+use Rattle.request_bytes.proofs.ResultLaws.{request_back}
+use Rattle.printout.proofs.RequestLaws.{printing_start, printing_end, printing_cut, printing_on}
 use Rattle.printout.proofs.play.put_requests.Goals as goal
+use Rattle.printout.proofs.play.put_requests.Goals.{In-Ok-Some}
 
-pub loop-p-init : goal.loop-p-init
-loop-p-init c = printing_start _ _ _ _ _ (omega arith)
+pub loop-q-init : goal.loop-q-init
+loop-q-init c = printing_start _ _ _ _ _ (omega arith)
 
-pub shape_of-out-in_default : goal.shape_of-out-in_default
-shape_of-out-in_default c =
-    same_room _ _ _ c.put_ending.ensures ∙ c.loop-p.invariant.left.room
+-- the request that was read
+read : (c : In-Ok-Some) → read_request c.args.bytes.now c.loop-q.p ≡ record { answer = Done c.in-Ok-Some.next; request = c.in-Ok-Some.q }
+read c = request_back (read_request c.args.bytes.now c.loop-q.p) (sym c.in-Ok-Some.ensures ∙ ap Ok c.in-Ok-Some.field-0-is)
 
-pub returns-in_default : goal.returns-in_default
-returns-in_default c =
-    printing_stop c.loop-p.invariant c.loop-p-test.true _ c.read_request-read.ensures c.in_default.not-Done
-    c.put_ending.ensures
+there : (c : In-Ok-Some) → Taken c.args.bytes.now c.loop-q.p c.in-Ok-Some.next c.in-Ok-Some.q
+there c = taken _ _ _ (sym (read c)) _ refl
 
-pub overflow_add-n : goal.overflow_add-n
-overflow_add-n c =
-    omega (arith, c.loop-p.invariant.counting.few)
+pub loop-q-smaller : goal.loop-q-smaller
+loop-q-smaller c = let t = there (goal.at.loop-q-smaller c).In-Ok-Some in omega (arith, t.on, t.inside)
 
-pub loop-p-smaller : goal.loop-p-smaller
-loop-p-smaller c =
-    let t = taken _ _ _ c.read_request-read.ensures _ c.in-Done.is in
-    omega (arith, t.on, t.inside)
+pub loop-q-preserved : goal.loop-q-preserved
+loop-q-preserved c =
+    let d = (goal.at.loop-q-preserved c).In-Ok-Some in
+    let t = there d in
+    printing_on c.loop-q.invariant (omega (arith, t.on, t.inside)) _ (sym (read d)) _ refl (omega arith)
+    c.put_answer.ensures.put c.put_answer.ensures.behind
 
-pub loop-p-preserved : goal.loop-p-preserved
-loop-p-preserved c =
-    printing_on c.loop-p.invariant c.loop-p-test.true _ c.read_request-read.ensures _ c.in-Done.is (omega arith)
-    c.put_answer-to.ensures
+pub returns-in-Ok-None : goal.returns-in-Ok-None
+returns-in-Ok-None c = printing_end c.loop-q.invariant (sym c.in-Ok-None.ensures ∙ ap Ok c.in-Ok-None.field-0-is)
 
-pub shape_of-out : goal.shape_of-out
-shape_of-out c = c.loop-p.invariant.left.room
-
-pub returns : goal.returns
-returns c = printing_none c.loop-p.invariant c.loop-p-test.false
+pub returns-in-Err : goal.returns-in-Err
+returns-in-Err c = printing_cut c.loop-q.invariant _ (sym c.in-Err.ensures) c.put_bad.ensures

@@ -5,8 +5,8 @@ use lib.ListN.{length}
 use Rattle.printout.proofs.RequestLaws.{Printing}
 use Rattle.printout.proofs.play.put_requests.Given as goal
 
-abbrev pub invariant-loop-p : goal.invariant-loop-p
-invariant-loop-p l = Printing l.columns l.bytes l.replies l.initial.out l.at l.out l.n l.p l.to
+abbrev pub invariant-loop-q : goal.invariant-loop-q
+invariant-loop-q l = Printing l.columns l.bytes l.replies l.initial.out l.at l.out l.n l.p l.to l.left
 
-abbrev pub decreases-loop-p : goal.decreases-loop-p
-decreases-loop-p l = length l.bytes - l.p
+abbrev pub decreases-loop-q : goal.decreases-loop-q
+decreases-loop-q l = length l.bytes - l.p

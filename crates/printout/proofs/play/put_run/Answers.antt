@@ -9,5 +9,5 @@ use Rattle.printout.proofs.play.put_run.Goals as goal
 
 pub returns : goal.returns
 returns c =
-    printed c.args.s _ c.requires.0 c.requires.1 _ _ (omega (arith, c.requires)) _ _ _ c.run_list-ran.ensures _
+    printed c.args.s _ c.requires.0 c.requires.1 _ _ (omega (arith, c.requires)) _ c.run_list.ensures _
     (omega arith) c.put_heading-heading.ensures c.put_requests-lines.ensures _ (ap outcome_of c.totals.ensures ∙ outcome_back _) c.put_end.ensures
