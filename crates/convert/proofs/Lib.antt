@@ -1,4 +1,5 @@
 -- The laws that the functions' proofs cite.
+pub mod EachLaws
 pub mod CommandLaws
 pub mod CellLaws
 pub mod SchemeLaws

@@ -4,9 +4,9 @@ use Prim.Native.Nat.{ℕ, ◌+◌, ◌≤◌, ◌<◌}
 use native.Mathlib.Omega.{arith}
 use mathlib.Core.Path.{◌≡◌, ◌∙◌}
 use mathlib.Core.Bool.{Bool}
-use mathlib.Core.List.{List}
+use mathlib.Core.List.{List, ◌++◌}
 use lib.Dec.{T, leb, leb→le}
-use lib.ListN.{length, take, set, get_or}
+use lib.ListN.{length, take, drop, set, get_or}
 use lib.Seq.{length-take-le, get_or-take}
 use Rattle.laws.specs.Check.{all, padded}
 use Rattle.model.specs.Scheme.{operations_of, commands_of}
@@ -19,7 +19,8 @@ use Rattle.model.proofs.Form.{all_at}
 use Rattle.scheme_write.proofs.WriteLaws.{commands_there, command_small}
 use Rattle.conversion.specs.Conversion.{conversion_fault, convertible, convert_command, convert_scheme, keeps_all}
 use Rattle.convert.specs.Inner.Parts.{convert_head, Convertible}
-use Rattle.laws.proofs.Filling.{Filling, changed_begin, changed_on, changed_all, changed_used}
+use Rattle.laws.proofs.Filling.{changed_used}
+use Rattle.convert.proofs.EachLaws.{Changing, each_begin, each_there, each_on, each_all}
 use Rattle.model.specs.Arrays.{scheme_of}
 use Rattle.command_bytes.proofs.Padded.{no_command_lem}
 
@@ -68,26 +69,30 @@ module _ (s : Scheme) (t : T (accepted_scheme s)) where
   unfolding accepted_scheme
   padding = search (and_left, and_right)
 
-  -- after j turns
+  -- those in use, after j turns
   abbrev pub Converted : List Command → ℕ → Type 0
-  Converted commands j = Filling (convert_scheme s).commands s.commands commands j
+  Converted commands j = Changing (convert_scheme s).commands s.commands commands s.head.count j
 
-  pub converted_begin : Converted s.commands 0
+  pub converted_begin : Converted (commands_of s) 0
   unfolding convert_scheme scheme_of
-  converted_begin = changed_begin (convert_command s.head.rights) no_command_lem 32 s.head.count s.commands padding in_range.0
+  converted_begin = each_begin (convert_command s.head.rights) no_command_lem 32 s.head.count s.commands padding in_range.0
 
-  pub converted_on : {commands : List Command} {j : ℕ} → Converted commands j → (d c : Command) → j < s.head.count →
-      c ≡ convert_command s.head.rights (get_or s.commands j d) → Converted (set commands j c) (j + 1)
-  unfolding convert_scheme scheme_of
-  converted_on = changed_on (convert_command s.head.rights) no_command_lem 32 s.head.count s.commands padding in_range.0
+  module _ {commands : List Command} {j : ℕ} (w : Converted commands j) where
+    pub converted_there : (d : Command) → j < s.head.count → get_or commands j d ≡ get_or s.commands j d
+    unfolding convert_scheme scheme_of
+    converted_there = each_there (convert_command s.head.rights) no_command_lem 32 s.head.count s.commands padding in_range.0 w
+
+    pub converted_on : (d c : Command) → j < s.head.count → c ≡ convert_command s.head.rights (get_or commands j d) → Converted (set commands j c) (j + 1)
+    unfolding convert_scheme scheme_of
+    converted_on = each_on (convert_command s.head.rights) no_command_lem 32 s.head.count s.commands padding in_range.0 w
 
   pub head_converted : convert_head s.head ≡ (convert_scheme s).head
   unfolding convert_scheme scheme_of
   head_converted = rw (changed_used (convert_command s.head.rights) no_command_lem 32 s.head.count s.commands padding in_range.0)
 
   pub converted_all : {commands : List Command} {j : ℕ} → Converted commands j → j ≡ s.head.count → (h : Head) → h ≡ convert_head s.head →
-      record { head = h; commands = commands } ≡ convert_scheme s
+      record { head = h; commands = commands ++ drop s.head.count s.commands } ≡ convert_scheme s
   unfolding convert_scheme scheme_of
-  converted_all v e h eh =
-      let all = changed_all (convert_command s.head.rights) no_command_lem 32 s.head.count s.commands padding in_range.0 v e in
+  converted_all w e h eh =
+      let all = each_all (convert_command s.head.rights) no_command_lem 32 s.head.count s.commands padding in_range.0 w e in
       λ i. record { head = (eh ∙ head_converted) i; commands = all i }

@@ -31,8 +31,8 @@ fn convert_tests(n: u8, t: Tests) -> Tests
     ensures { result ≡ tests_from (map (convert_test n) (tests_of t)) }
 {
     let mut list = t.list;
-    for j in 0..t.count as usize {
-        list[j] = convert_test(n, t.list[j]);
+    for test in list[..t.count as usize].iter_mut() {
+        *test = convert_test(n, *test);
     }
     Tests {
         count: t.count,
@@ -101,6 +101,7 @@ fn convert_operations(n: u8, o: Operations) -> Operations
 
 // ---- all of it
 
+#[tactic(auto, using(crate::proofs::CommandLaws::tests_padded, crate::proofs::CommandLaws::command_is))]
 pub(crate) fn convert_command(n: u8, c: Command) -> Command
     requires { Convertible c }
     ensures { result ≡ convert_command n c }

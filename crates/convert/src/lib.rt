@@ -1,5 +1,5 @@
 // A scheme, or a matrix of it, converted: as values, and as bytes.
-#![tactic(auto, unfolding(faults::specs::Numbers::fault_of))]
+#![tactic(auto)]
 
 mod bytes;
 mod command;

@@ -17,6 +17,7 @@ use model::{Head, Scheme, Things};
 use rights::RightSet;
 
 // A set with the partner of each right it lacks.
+#[tactic(auto, using(crate::proofs::CellLaws::converted_word, crate::proofs::CellLaws::word_small))]
 fn convert_set(c: RightSet, n: u8) -> RightSet
     requires { (n ≤ 32) × (c.0 < 2 ^ n) }
     ensures { result.0 ≡ converted n c.0 }
@@ -32,8 +33,7 @@ fn convert_row(ids: [u16; Things::LIMIT], n: u8, row: &mut [u64])
 {
     for j in 0..Things::LIMIT {
         if ids[j] != 0 {
-            let robot = convert_set(RightSet(row[j]), n);
-            row[j] = robot.0;
+            row[j] = convert_set(RightSet(row[j]), n).0;
         }
     }
 }

@@ -71,13 +71,14 @@ fn convert_all(s: Scheme) -> Scheme
     requires { T (accepted_scheme s) × T (convertible s) }
     ensures { result ≡ convert_scheme s }
 {
-    let n = s.head.rights;
     let mut commands = s.commands;
-    for j in 0..s.head.count as usize {
-        commands[j] = convert_command(n, s.commands[j]);
+    for command in commands[..s.head.count as usize].iter_mut() {
+        *command = convert_command(s.head.rights, *command);
     }
-    let head = converted_head(s.head);
-    Scheme { head, commands }
+    Scheme {
+        head: converted_head(s.head),
+        commands,
+    }
 }
 
 // The scheme converted: 27, then 20, 21, 22, each over all of it.

@@ -7,14 +7,17 @@ use Rattle.convert.proofs.matrix.convert_row.Goals.{else-ids-j-ne0, then-ids-j-n
 pub loop-j-init : goal.loop-j-init
 loop-j-init c = row_start _ _ _ (search rules) c.requires.1
 
-pub convert_set-robot-requires : goal.convert_set-robot-requires
-convert_set-robot-requires c =
+pub convert_set-requires : goal.convert_set-requires
+convert_set-requires c =
     let p = c.requires in
     (p.0, rw (row_there c.loop-j.invariant (search rules)) (p.2 _ (search rules)))
 
 pub loop-j-preserved : goal.loop-j-preserved
 loop-j-preserved c =
-    (elim c.if-ids-j-ne0.branch [ then-ids-j-ne0 w ↦ rw w.row-is (row_on c.loop-j.invariant (search rules) _ w.if-ids-j-ne0.true w.convert_set-robot.ensures) | else-ids-j-ne0 w ↦ rw w.row-is (row_past c.loop-j.invariant (search rules) w.if-ids-j-ne0.false) ])
+    elim c.if-ids-j-ne0.branch [
+      | then-ids-j-ne0 w ↦ rw w.row-is (row_on c.loop-j.invariant (search rules) _ w.if-ids-j-ne0.true w.convert_set.ensures)
+      | else-ids-j-ne0 w ↦ rw w.row-is (row_past c.loop-j.invariant (search rules) w.if-ids-j-ne0.false)
+    ]
 
 pub returns : goal.returns
 returns c = row_end c.loop-j.invariant (search rules)

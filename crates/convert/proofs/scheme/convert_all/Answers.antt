@@ -1,26 +1,30 @@
--- After j turns the first j commands are the converted ones; behind those in use stand zeros before and after.
+-- After so many turns so many commands in use are the converted ones; behind those in use stand zeros before and after.
 use native.Mathlib.Omega.{arith}
-use borrow.Author.Rules.{rules}
+use mathlib.Core.Path.{sym}
+use lib.Seq.{length-take-le}
 use Rattle.conversion.proofs.Lists.{few_rights}
-use Rattle.convert.proofs.SchemeLaws.{in_range, command_convertible, converted_begin, converted_on, converted_all}
+use Rattle.convert.proofs.SchemeLaws.{in_range, command_convertible, converted_begin, converted_there, converted_on, converted_all}
 use Rattle.convert.proofs.scheme.convert_all.Goals as goal
 
-pub loop-j-init : goal.loop-j-init
-loop-j-init c = let p = c.requires.0 in (omega arith, (in_range _ p).0, converted_begin _ p)
+pub slice_bounds-commands-end : goal.slice_bounds-commands-end
+slice_bounds-commands-end c = (in_range _ c.requires.0).1
+
+pub slice_bounds-command-items-end : goal.slice_bounds-command-items-end
+slice_bounds-command-items-end c = sym (length-take-le _ c.args.s.commands (in_range _ c.requires.0).1)
+
+pub loop-command-init : goal.loop-command-init
+loop-command-init c = converted_begin _ c.requires.0
 
 pub convert_command-requires : goal.convert_command-requires
 convert_command-requires c =
     let p = c.requires in
-    command_convertible _ p.0 p.1 _ _ (search rules)
+    rw (converted_there _ p.0 c.loop-command.invariant _ (omega arith)) (command_convertible _ p.0 p.1 _ _ (omega arith))
 
-pub loop-j-preserved : goal.loop-j-preserved
-loop-j-preserved c =
-    let (m, h, v) = c.loop-j.invariant in
-    (search rules, h, converted_on _ c.requires.0 v _ _ (search rules) c.convert_command.ensures)
+pub loop-command-preserved : goal.loop-command-preserved
+loop-command-preserved c = converted_on _ c.requires.0 c.loop-command.invariant _ _ (omega arith) c.convert_command.ensures
 
-pub converted_head-head-requires : goal.converted_head-head-requires
-converted_head-head-requires c = few_rights _ c.requires.1
+pub converted_head-requires : goal.converted_head-requires
+converted_head-requires c = few_rights _ c.requires.1
 
 pub returns : goal.returns
-returns c =
-    converted_all _ c.requires.0 c.loop-j.invariant.2 (omega arith) _ c.converted_head-head.ensures
+returns c = converted_all _ c.requires.0 c.loop-command.invariant (omega arith) _ c.converted_head.ensures
