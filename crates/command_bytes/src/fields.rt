@@ -3,10 +3,12 @@ ghost use Rattle.std.specs.Prelude.{◌≡◌, ◌≤◌, Bool, drop};
 ghost use Rattle.records.specs.Results.{value_of};
 ghost use Rattle.rights.specs.declared.Parameter.{Parameter};
 ghost use Rattle.accepted.specs.Answers.{before};
-ghost use Rattle.command_bytes.specs.Read.{type_in, named, test, code_of, by_code, operation};
-ghost use Rattle.command_bytes.specs.Inner.Parts.{three};
+ghost use Rattle.command_bytes.specs.Read.{type_in, named, test, code_of, by_code, operation, tests_in, operations_in};
+ghost use Rattle.command_bytes.specs.Inner.Parts.{three, in_array};
+ghost use Rattle.model.specs.Arrays.{tests_from, operations_from};
 ghost use Rattle.model.specs.Scheme.{parameters_of, tests_of};
 
+use crate::none::{NO_OPERATION, NO_TEST};
 use accepted::{creatable, destroyable, group_of, last_group, type_at};
 use faults::Fault;
 use model::{Code, Head, Operation, Operations, Parameters, Test, Tests};
@@ -151,5 +153,35 @@ impl Scope {
             row: found.row,
             column: found.column,
         })
+    }
+
+    // ---- lists of them
+
+    pub(crate) fn tests_at(self, b: &[u8], i: usize, k: u8) -> Result<Tests, Fault>
+        requires { (i ≤ 1024) × (k ≤ 16) }
+        ensures { result ≡ value_of (in_array tests_from (tests_in self.head (parameters_of self.parameters) k) (drop i b.now)) }
+    {
+        let mut list = [NO_TEST; Tests::PLACES];
+        for j in 0..k as usize {
+            list[j] = self.test_at(b, i + 4 * j)?;
+        }
+        Ok(Tests { count: k, list })
+    }
+
+    pub(crate) fn operations_at(
+        self,
+        b: &[u8],
+        i: usize,
+        t: Tests,
+        k: u8,
+    ) -> Result<Operations, Fault>
+        requires { (i ≤ 1024) × (k ≤ 32) }
+        ensures { result ≡ value_of (in_array operations_from (operations_in self.head (parameters_of self.parameters) (tests_of t) k) (drop i b.now)) }
+    {
+        let mut list = [NO_OPERATION; Operations::PLACES];
+        for j in 0..k as usize {
+            list[j] = self.operation_at(b, i + 4 * j, t, Operations { count: k, list }, j)?;
+        }
+        Ok(Operations { count: k, list })
     }
 }

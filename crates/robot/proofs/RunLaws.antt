@@ -22,22 +22,27 @@ use Rattle.model.proofs.Joined.{run_kept}
 use Rattle.records.specs.Writing.{placed, write_bytes}
 use Rattle.records.specs.Outcome.Reading.{Reading}
 use Rattle.records.specs.Outcome.Reading as reading
-use Rattle.records.specs.Outcome.Writing.{Writing}
-use Rattle.records.specs.Outcome.Writing as writing
 use Rattle.records.proofs.Wrote.{pair_eq, wrote}
 use Rattle.matrix_bytes.specs.Answers.{read_matrix, read_matrix_by_head}
 use Rattle.matrix_bytes.specs.Write.{matrix_bytes, write_matrix, write_matrix_by_head}
 use Rattle.matrix_bytes.specs.MatrixAnswer.{MatrixAnswer}
 use Rattle.matrix_bytes.proofs.RoundTrips.{head_passes}
 use Rattle.matrix_bytes.proofs.FunctionTrips.{function_trips}
-use Rattle.engine.specs.List.{replies_to, run_answer, Result, refused_run, run_on, run_quietly}
-use Rattle.engine.specs.declared.answers.Ran.{Ran as Run}
-use Rattle.engine.specs.declared.answers.RunAnswer.{RunAnswer}
-use Rattle.engine.specs.declared.answers.RunAnswer.TheVariants.{Refused}
-use Rattle.robot.specs.Library.{call, gives, gives_ran, bytes_after, ended_by, run_matrix}
-use Rattle.robot.specs.Inner.Parts.{count_of, next_of, ending_by, needed_by}
+use Rattle.engine.specs.List.{replies_to, run_answer, Result as Run, refused_run, run_on, run_quietly}
+use Rattle.engine.specs.declared.answers.Ended.{Ended}
+use Rattle.engine.specs.Given.{Given, Quiet, ended_as, gives, gives_quietly}
+use Rattle.std.specs.Prelude.{Result, Ok, Err, Some, None}
+use Rattle.std.specs.Result.{result_unwrap_or}
+use Rattle.faults.specs.Numbers.{number_of, fault_of}
+use Rattle.faults.specs.declared.Fault.{Fault}
+use Rattle.faults.proofs.NumberLaws.{numbered}
+use Rattle.records.specs.Results.{refused, written}
+use Rattle.robot.specs.Library.{Called, call, cut_short, bytes_after, ended_by, run_matrix}
+use Rattle.robot.specs.Inner.Calls.{told_done, Answered, answered, matrix_found}
+use Rattle.robot.specs.declared.report.Failure.{Failure}
+use Rattle.robot.proofs.CallLaws.{matrix_was}
+use Rattle.robot.specs.Inner.Parts.{count_in, ending_by, needed_by}
 use Rattle.robot.specs.declared.run.Needed.{Needed}
-use Rattle.robot.proofs.CallLaws.{not_run_lem}
 use Rattle.robot.proofs.SizeLaws.{largest}
 use Rattle.laws.proofs.Differ.{constructors_differ}
 use Rattle.matrix_bytes.proofs.ReadMatrix.{by_head}
@@ -57,6 +62,13 @@ read_accepted bytes s ok things cells new r n small is e =
     let (t, w) = wrote (accepted_scheme s && accepted_matrix s.head m) 27 bytes 0 (matrix_bytes s.head m) _ _ (again bytes (omega arith)) in
     and_right (accepted_scheme s) _ t
 
+pub found_matrix_accepted : (bytes : List ℕ) (s : Scheme) → T (accepted_scheme s) → ((i : ℕ) → get_or bytes i 0 < 256) → {p : Things × ℕ} {cells : List ℕ} →
+    ◌≡◌ {A = Result (Things × ℕ) Failure × List ℕ} (Ok p, cells) (matrix_found bytes s.head) → T (accepted_matrix s.head (record { things = p.0; cells = cells }))
+found_matrix_accepted bytes s ok small e = read_accepted bytes s ok _ _ _ _ _ small (matrix_was bytes s.head e) refl
+
+abbrev Stored : Type 0
+Stored = Result ℕ Fault
+
 module _ (s : Scheme) (ok : T (accepted_scheme s)) where
   module _ (m : Matrix) (of : T (accepted_matrix s.head m)) (l : Listed) where
     abbrev end : Matrix
@@ -71,13 +83,13 @@ module _ (s : Scheme) (ok : T (accepted_scheme s)) where
 
     -- where there is room, the matrix afterwards is written
     module _ (out : List ℕ) (room : length (bytes_after s m l) ≤ length out) where
-      pub written_after : (things : Things) (cells : List ℕ) → things ≡ end.things → cells ≡ end.cells → (w : Writing) (out' : List ℕ) →
-          ◌≡◌ {A = Writing × List ℕ} (w, out') (write_matrix_by_head out s.head (record { things = things; cells = cells })) →
-          (next_of w ≡ length bytes) × (out' ≡ placed out 0 bytes)
+      pub written_after : (things : Things) (cells : List ℕ) → things ≡ end.things → cells ≡ end.cells → {r : Stored} {out' : List ℕ} →
+          ◌≡◌ {A = Stored × List ℕ} (r, out') (written (write_matrix_by_head out s.head (record { things = things; cells = cells }))) →
+          (result_unwrap_or r 0 ≡ length bytes) × (out' ≡ placed out 0 bytes)
       unfolding write_matrix_by_head write_bytes bytes_after
-      written_after things cells et ec w out' e =
+      written_after things cells et ec {r} {out'} e =
           let same : ◌≡◌ {A = Matrix} (record { things = things; cells = cells }) end = λ i. record { things = et i; cells = ec i } in
-          let f : ◌≡◌ {A = Writing × List ℕ} (w, out') (writing.Done (length bytes), placed out 0 bytes) =
+          let f : ◌≡◌ {A = Stored × List ℕ} (r, out') (Ok (length bytes), placed out 0 bytes) =
           e ∙ rw (
             same,
             is_true (passes (head_fault s.head)) (head_passes s ok),
@@ -85,100 +97,104 @@ module _ (s : Scheme) (ok : T (accepted_scheme s)) where
             zero-add,
             le-leb _ _ room,
           ) in
-          let (a, b) = pair_eq f in (ap next_of a, b)
+          let (a, b) = pair_eq f in (ap (λ (x : Stored). result_unwrap_or x 0) a, b)
 
 -- ---- a list that was run: refused by 9 as a whole, or carried out to its end
-abbrev RunsOn : RunAnswer → Type 0
-RunsOn a = (k : ℕ) → a ≡ Refused k → ⊥
-
-ended_not : (n x : ℕ) (e : Reading) → run_answer n e ≡ Refused x → ⊥
-ended_not n x (reading.Done next) f = constructors_differ (cc)
-ended_not n x (reading.Refused k at) f = constructors_differ (cc)
-
 pub ended_told : (n written : ℕ) (e : Reading) → ending_by written (run_answer n e) ≡ ended_by n written e
 ended_told n written (reading.Done next) = refl
 ended_told n written (reading.Refused k at) = refl
 
-module _ (s : Scheme) (ok : T (accepted_scheme s)) (m : Matrix) (of : T (accepted_matrix s.head m)) (requests results : List ℕ)
-    (r : Run) (cells replies : List ℕ) (is : record { ran = r; cells = cells; replies = replies } ≡ run_on s m requests results) where
+-- what is told of the list's end
+abbrev done_told : ℕ → Ended → Called
+done_told written x = told_done x.cut (record { at = 0; count = x.count; written = written; cut = x.cut })
+
+ending_told : (n written : ℕ) (e : Reading) {x : Ended} → Ok x ≡ ended_as (run_answer n e) → done_told written x ≡ ended_by n written e
+ending_told n written (reading.Done next) {x} f = let g : x ≡ record { count = n; cut = None } = cc in ap (done_told written) g
+ending_told n written (reading.Refused k at) {x} f =
+    let g : x ≡ record { count = n; cut = Some (refused k at) } = cc in
+    ap (done_told written) g ∙ ap (λ (j : ℕ). cut_short j at n written) (numbered k)
+
+ended_not : (n : ℕ) (e : Reading) {f : Fault} → Err f ≡ ended_as (run_answer n e) → ⊥
+ended_not n (reading.Done next) g = constructors_differ (cc)
+ended_not n (reading.Refused k at) g = constructors_differ (cc)
+
+module _ (s : Scheme) (ok : T (accepted_scheme s)) (m : Matrix) (of : T (accepted_matrix s.head m)) (requests results : List ℕ) where
   abbrev l : Listed
   l = read_list requests
 
   abbrev count : ℕ
   count = length l.requests
 
-  abbrev carried : Result
+  abbrev carried : Run
   carried = record {
     ran = record { answer = run_answer count l.ending; things = (end s ok m of l).things };
     cells = (end s ok m of l).cells;
     replies = placed results 0 (replies_to s m l.requests);
   }
 
-  by_room : record { ran = r; cells = cells; replies = replies } ≡ cond (leb (reply_width * count) (length results)) carried (refused_run m results 9)
+  abbrev by_room : Bool → Run
+  by_room b = cond b carried (refused_run m results 9)
+
+  accepted : {g : Given} → g ≡ gives (run_on s m requests results) → g ≡ gives (by_room (leb (reply_width * count) (length results)))
   unfolding run_on
-  by_room = is ∙ rw (is_true (accepted_scheme s) ok, is_true (accepted_matrix s.head m) of)
+  accepted e = e ∙ rw (is_true (accepted_scheme s) ok, is_true (accepted_matrix s.head m) of)
 
-  refused_by : (x : ℕ) → r.answer ≡ Refused x → (b : Bool) → record { ran = r; cells = cells; replies = replies } ≡ cond b carried (refused_run m results 9) →
-      (b ≡ false) × (x ≡ 9) × (replies ≡ results)
-  refused_by x e true f = absurd (ended_not count x l.ending (sym (ap (λ (q : Result). q.ran.answer) f) ∙ e))
-  refused_by x e false f =
-      let a : Refused 9 ≡ Refused x = sym (ap (λ (q : Result). q.ran.answer) f) ∙ e in
-      (refl, cc, ap (λ (q : Result). q.replies) f)
-
-  carried_by : RunsOn r.answer → (b : Bool) → record { ran = r; cells = cells; replies = replies } ≡ cond b carried (refused_run m results 9) →
-      (b ≡ true) × (record { ran = r; cells = cells; replies = replies } ≡ carried)
-  carried_by h true f = (refl, f)
-  carried_by h false f =
-      let a : r.answer ≡ Refused 9 = ap (λ (q : Result). q.ran.answer) f in
-      absurd (h 9 a)
-
-  module _ (report out : List ℕ) (n : ℕ) (report' : List ℕ) where
-    pub run_short : (x : ℕ) → r.answer ≡ Refused x → ◌≡◌ {A = ℕ × List ℕ} (n, report') (gives report (ending_by 0 r.answer)) →
-        ◌≡◌ {A = ℕ × List ℕ × List ℕ × List ℕ} (n, replies, out, report') (gives_ran report (run_matrix s m l results out))
+  module _ (out : List ℕ) {th : Things} {cells replies : List ℕ} where
+    pub run_refused : {f : Fault} → ◌≡◌ {A = Given} (Err f, th, cells, replies) (gives (run_on s m requests results)) →
+        ◌≡◌ {A = Answered} (call (number_of f) 4 0 0 0, replies, out) (answered (run_matrix s m l results out))
     unfolding run_matrix
-    run_short x e told =
-        let (b, x9, same) = refused_by x e (leb (reply_width * count) (length results)) by_room in
-        rw (b, same) (ap (λ (q : ℕ × List ℕ). (q.0, results, out, q.1)) (told ∙ rw (e, x9)))
+    run_refused {f} e = go (leb (reply_width * count) (length results)) refl (accepted e)
+      where
+        go : (b : Bool) → leb (reply_width * count) (length results) ≡ b → ◌≡◌ {A = Given} (Err f, th, cells, replies) (gives (by_room b)) →
+            ◌≡◌ {A = Answered} (call (number_of f) 4 0 0 0, replies, out) (answered (run_matrix s m l results out))
+        go true h g = absurd (ended_not count l.ending (ap (λ (x : Given). x.0) g))
+        go false h g =
+            let r : replies ≡ results = ap (λ (x : Given). x.3) g in
+            let z : ◌≡◌ {A = Result Ended Fault} (Err f) (Err (fault_of 9)) = ap (λ (x : Given). x.0) g in
+            let nine : number_of f ≡ 9 = (let y : f ≡ fault_of 9 = cc in ap number_of y ∙ numbered 9) in
+            rw (h, r, nine)
 
-    pub run_long : RunsOn r.answer → length (bytes_after s m l) ≤ length out → (w : Writing) (out' : List ℕ) →
-        ◌≡◌ {A = Writing × List ℕ} (w, out') (write_matrix_by_head out s.head (record { things = r.things; cells = cells })) → (written : ℕ) → written ≡ next_of w →
-        ◌≡◌ {A = ℕ × List ℕ} (n, report') (gives report (ending_by written r.answer)) →
-        ◌≡◌ {A = ℕ × List ℕ × List ℕ × List ℕ} (n, replies, out', report') (gives_ran report (run_matrix s m l results out))
+    pub run_carried : {x : Ended} → ◌≡◌ {A = Given} (Ok x, th, cells, replies) (gives (run_on s m requests results)) →
+        length (bytes_after s m l) ≤ length out → {r : Stored} {out' : List ℕ} →
+        ◌≡◌ {A = Stored × List ℕ} (r, out') (written (write_matrix_by_head out s.head (record { things = th; cells = cells }))) →
+        ◌≡◌ {A = Answered} (done_told (result_unwrap_or r 0) x, replies, out') (answered (run_matrix s m l results out))
     unfolding run_matrix
-    run_long h room w out' e written ew told =
-        let (b, all) = carried_by h (leb (reply_width * count) (length results)) by_room in
-        let things = ap (λ (q : Result). q.ran.things) all in
-        let (size, stands) = written_after s ok m of l out room r.things cells things (ap (λ (q : Result). q.cells) all) w out' e in
-        let answer = ap (λ (q : Result). q.ran.answer) all in
-        let same = ap (λ (q : Result). q.replies) all in
-        rw (b, le-leb _ _ room, same, stands)
-        (ap (λ (q : ℕ × List ℕ). (q.0, placed results 0 (replies_to s m l.requests), placed out 0 (bytes_after s m l), q.1))
-        (told ∙ rw (answer, ew, size, ended_told count (length (bytes_after s m l)) l.ending)))
+    run_carried {x} e room {r} {out'} is = go (leb (reply_width * count) (length results)) refl (accepted e)
+      where
+        go : (b : Bool) → leb (reply_width * count) (length results) ≡ b → ◌≡◌ {A = Given} (Ok x, th, cells, replies) (gives (by_room b)) →
+            ◌≡◌ {A = Answered} (done_told (result_unwrap_or r 0) x, replies, out') (answered (run_matrix s m l results out))
+        go true h g =
+            let (size, stands) = written_after s ok m of l out room th cells (ap (λ (x : Given). x.1) g) (ap (λ (x : Given). x.2) g) is in
+            let same : replies ≡ placed results 0 (replies_to s m l.requests) = ap (λ (x : Given). x.3) g in
+            let told = ending_told count (length (bytes_after s m l)) l.ending (ap (λ (x : Given). x.0) g) in
+            rw (h, le-leb _ _ room, same, stands, size, told)
+        go false h g = let z = ap (λ (x : Given). x.0) g in constructors_differ (cc)
 
 -- ---- what a trial tells
-told_count : (n : ℕ) (e : Reading) → count_of (run_answer n e) ≡ n
+told_count : (n : ℕ) (e : Reading) → count_in (ended_as (run_answer n e)) ≡ n
 told_count n (reading.Done next) = refl
 told_count n (reading.Refused k at) = refl
 
-module _ (s : Scheme) (ok : T (accepted_scheme s)) (m : Matrix) (of : T (accepted_matrix s.head m)) (requests : List ℕ) (r : Run) (cells : List ℕ)
-    (is : ◌≡◌ {A = Run × List ℕ} (r, cells) (run_quietly s m requests)) where
-  quietly : ◌≡◌ {A = Run × List ℕ} (r, cells) (
-    record { answer = run_answer (length (read_list requests).requests) (read_list requests).ending; things = (end s ok m of (read_list requests)).things },
+module _ (s : Scheme) (ok : T (accepted_scheme s)) (m : Matrix) (of : T (accepted_matrix s.head m)) (requests : List ℕ) where
+  quietly : {g : Quiet} → g ≡ gives_quietly (run_quietly s m requests) → ◌≡◌ {A = Quiet} g (
+    ended_as (run_answer (length (read_list requests).requests) (read_list requests).ending),
+    (end s ok m of (read_list requests)).things,
     (end s ok m of (read_list requests)).cells,
   )
   unfolding run_quietly
-  quietly = is ∙ rw (is_true (accepted_scheme s) ok, is_true (accepted_matrix s.head m) of)
+  quietly e = e ∙ rw (is_true (accepted_scheme s) ok, is_true (accepted_matrix s.head m) of)
 
-  pub trial_tells : (count : ℕ) → count ≡ count_of r.answer → (out : List ℕ) → 37208 ≤ length out → (w : Writing) (out' : List ℕ) →
-      ◌≡◌ {A = Writing × List ℕ} (w, out') (write_matrix_by_head out s.head (record { things = r.things; cells = cells })) → (written : ℕ) → written ≡ next_of w →
-      ◌≡◌ {A = Needed} (record { answers = count; bytes = written }) (needed_by s m (read_list requests))
+  pub trial_tells : {a : Result Ended Fault} {th : Things} {cells : List ℕ} → ◌≡◌ {A = Quiet} (a, th, cells) (gives_quietly (run_quietly s m requests)) →
+      (out : List ℕ) → 37208 ≤ length out → {r : Stored} {out' : List ℕ} →
+      ◌≡◌ {A = Stored × List ℕ} (r, out') (written (write_matrix_by_head out s.head (record { things = th; cells = cells }))) →
+      ◌≡◌ {A = Needed} (record { answers = count_in a; bytes = result_unwrap_or r 0 }) (needed_by s m (read_list requests))
   unfolding needed_by
-  trial_tells count ec out room w out' e written ew =
+  trial_tells {a} {th} {cells} e out room is =
       let l : Listed = read_list requests in
-      let (a, b) = pair_eq quietly in
-      let (size, stands) = written_after s ok m of l out (always_fits s ok m of l (length out) room) r.things cells (ap (λ (q : Run). q.things) a) b w out' e in
-      let counted : count ≡ length l.requests = ec ∙ ap (λ (q : Run). count_of q.answer) a ∙ told_count _ l.ending in
-      rw (counted, ew, size)
+      let q = quietly e in
+      let (size, stands) = written_after s ok m of l out (always_fits s ok m of l (length out) room) th cells (ap (λ (x : Quiet). x.1) q) (ap (λ (x : Quiet). x.2) q) is in
+      let counted : count_in a ≡ length l.requests = ap (λ (x : Quiet). count_in x.0) q ∙ told_count _ l.ending in
+      rw (counted, size)
 
 pub tried_fits : (s : Scheme) (m : Matrix) (l : Listed) (need : Needed) → need ≡ needed_by s m l → (room : ℕ) → need.bytes ≤ room →
     length (bytes_after s m l) ≤ room
@@ -186,25 +202,21 @@ unfolding needed_by
 tried_fits s m l need is room h = omega (arith, ap (λ (x : Needed). x.bytes) is)
 
 -- ---- what a trial tells not to fit, before anything is stored
-module _ (s : Scheme) (m : Matrix) (l : Listed) (need : Needed) (is : need ≡ needed_by s m l) (report results out : List ℕ) (n : ℕ) (report' : List ℕ) where
-  abbrev left : ℕ × List ℕ × List ℕ × List ℕ
-  left = (n, results, out, report')
-
-  pub answers_short : length results / reply_width < need.answers → ◌≡◌ {A = ℕ × List ℕ} (n, report') (gives report (call 9 4 0 0 0)) →
-      left ≡ gives_ran report (run_matrix s m l results out)
+module _ (s : Scheme) (m : Matrix) (l : Listed) (need : Needed) (is : need ≡ needed_by s m l) (results out : List ℕ) where
+  pub answers_short : length results / reply_width < need.answers →
+      ◌≡◌ {A = Answered} (call 9 4 0 0 0, results, out) (answered (run_matrix s m l results out))
   unfolding run_matrix needed_by
-  answers_short h told =
+  answers_short h =
       let e : need.answers ≡ length l.requests = ap (λ (x : Needed). x.answers) is in
-      rw (lt-leb (reply_width * length l.requests) (length results) (omega arith)) (not_run_lem report n report' results out 9 4 0 told)
+      rw (lt-leb (reply_width * length l.requests) (length results) (omega arith))
 
-  pub out_short : need.answers ≤ length results / reply_width → length out < need.bytes → ◌≡◌ {A = ℕ × List ℕ} (n, report') (gives report (call 9 5 0 0 0)) →
-      left ≡ gives_ran report (run_matrix s m l results out)
+  pub out_short : need.answers ≤ length results / reply_width → length out < need.bytes →
+      ◌≡◌ {A = Answered} (call 9 5 0 0 0, results, out) (answered (run_matrix s m l results out))
   unfolding run_matrix needed_by
-  out_short g h told =
+  out_short g h =
       let e : need.answers ≡ length l.requests = ap (λ (x : Needed). x.answers) is in
       let f : need.bytes ≡ length (bytes_after s m l) = ap (λ (x : Needed). x.bytes) is in
       rw (
         le-leb (reply_width * length l.requests) (length results) (omega arith),
         lt-leb (length (bytes_after s m l)) (length out) (omega arith),
       )
-      (not_run_lem report n report' results out 9 5 0 told)

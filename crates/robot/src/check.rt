@@ -1,56 +1,72 @@
 // Whether bytes read as a scheme, or as a matrix of one.
-ghost use Rattle.std.specs.Prelude.{◌≡◌, List, ℕ, T};
+ghost use Rattle.std.specs.Prelude.{◌≡◌, List, ℕ, Result, T, replicate};
 ghost use Rattle.model.specs.Accepted.{accepted_scheme};
-ghost use Rattle.model.specs.declared.Scheme.{Scheme};
-ghost use Rattle.scheme_bytes.specs.Answers.{read_scheme};
+ghost use Rattle.model.specs.declared.Things.{Things};
 ghost use Rattle.robot.specs.Library.{gives, check_scheme, check_against, check_matrix};
-ghost use Rattle.model.specs.Arrays.{no_scheme};
+ghost use Rattle.robot.specs.Inner.Calls.{told, scheme_found, matrix_found};
+ghost use Rattle.robot.specs.declared.report.Failure.{Failure};
 
-use crate::report::tell;
-use model::{Head, Things};
-use records::Reading;
-use scheme_bytes::SchemeAnswer;
+use crate::report::{Called, Failure, Place, Success, tell};
+use model::{Head, Scheme, Things};
 
-// A scheme read from bytes; it is told apart from none by the answer beside it.
-pub(crate) fn scheme_of(scheme: &[u8]) -> SchemeAnswer
-    ensures { result ≡ read_scheme scheme.now no_scheme }
+// A scheme from bytes, with its length.
+pub(crate) fn scheme_of(scheme: &[u8]) -> Result<(Scheme, usize), Failure>
+    ensures { result ≡ scheme_found scheme.now }
 {
-    scheme_bytes::read_scheme(scheme, scheme_bytes::no_scheme())
+    let mut s = scheme_bytes::no_scheme();
+    match scheme_bytes::read_scheme(scheme, &mut s) {
+        Ok(next) => Ok((s, next)),
+        Err(refused) => Err(Failure::at_record(refused, Place::Scheme)),
+    }
+}
+
+// The things of a matrix from bytes, with its length; its cells stand in the lent ones then. The head is that of a scheme that was read, so it is enough.
+pub(crate) fn matrix_of(
+    matrix: &[u8],
+    h: Head,
+    cells: &mut [u64],
+) -> Result<(Things, usize), Failure>
+    requires { cells.old ≡ replicate 2304 0 }
+    ensures { ◌≡◌ {A = Result (Things × ℕ) Failure × List ℕ} (result, cells.new) (matrix_found matrix.now h) }
+{
+    let mut things = things::no_things();
+    match matrix_bytes::read_matrix_by_head(matrix, h, &mut things, cells) {
+        Ok(next) => Ok((things, next)),
+        Err(refused) => Err(Failure::at_record(refused, Place::Matrix)),
+    }
+}
+
+fn check_scheme_bytes(scheme: &[u8]) -> Called
+    ensures { told result ≡ check_scheme scheme.now }
+{
+    let (_, next) = scheme_of(scheme)?;
+    Ok(Success::read(next))
 }
 
 pub fn slushferret_check_scheme(scheme: &[u8], report: &mut [usize]) -> u8
     ensures { ◌≡◌ {A = ℕ × List ℕ} (result, report.new) (gives report.old (check_scheme scheme.now)) }
 {
-    let read = scheme_of(scheme);
-    let answer = read.answer;
-    let Reading::Done { next } = answer else {
-        return tell(report, answer.number(), 1, answer.at(), 0, 0);
-    };
-    tell(report, 0, 0, next, 0, 0)
+    tell(report, check_scheme_bytes(scheme))
 }
 
-// The head is that of a scheme that was read, so it is enough.
-fn check_of(h: Head, matrix: &[u8], report: &mut [usize]) -> u8
-    ensures { (s : Scheme) → T (accepted_scheme s) → s.head ≡ h → ◌≡◌ {A = ℕ × List ℕ} (result, report.new) (gives report.old (check_against matrix.now s)) }
+fn check_of(s: Scheme, matrix: &[u8]) -> Called
+    requires { T (accepted_scheme s) }
+    ensures { told result ≡ check_against matrix.now s }
 {
     let mut cells = [0u64; Things::CELLS];
-    let read = matrix_bytes::read_matrix_by_head(matrix, h, things::no_things(), &mut cells);
-    let answer = read.answer;
-    let Reading::Done { next } = answer else {
-        return tell(report, answer.number(), 2, answer.at(), 0, 0);
-    };
-    tell(report, 0, 0, next, 0, 0)
+    let (_, next) = matrix_of(matrix, s.head, &mut cells)?;
+    Ok(Success::read(next))
+}
+
+fn check_matrix_bytes(scheme: &[u8], matrix: &[u8]) -> Called
+    ensures { told result ≡ check_matrix scheme.now matrix.now }
+{
+    let (s, _) = scheme_of(scheme)?;
+    check_of(s, matrix)
 }
 
 pub fn slushferret_check_matrix(scheme: &[u8], matrix: &[u8], report: &mut [usize]) -> u8
     ensures { ◌≡◌ {A = ℕ × List ℕ} (result, report.new) (gives report.old (check_matrix scheme.now matrix.now)) }
 {
-    let read = scheme_of(scheme);
-    let answer = read.answer;
-    let Reading::Done { next: _ } = answer else {
-        return tell(report, answer.number(), 1, answer.at(), 0, 0);
-    };
-    let s = read.scheme;
-    let h = s.head;
-    check_of(h, matrix, report)
+    tell(report, check_matrix_bytes(scheme, matrix))
 }

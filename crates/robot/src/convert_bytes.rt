@@ -2,39 +2,42 @@
 ghost use Rattle.std.specs.Prelude.{◌≡◌, List, ℕ, T};
 ghost use Rattle.model.specs.Accepted.{accepted_scheme};
 ghost use Rattle.robot.specs.Library.{gives_wrote, convert_scheme_bytes, convert_against, convert_matrix_bytes};
+ghost use Rattle.robot.specs.Inner.Calls.{Filled, told, filled};
 
-use crate::check::scheme_of;
-use crate::report::{tell, tell_writing};
+use crate::check::{matrix_of, scheme_of};
+use crate::report::{Called, Place, tell, written};
 use model::{Scheme, Things};
-use records::Reading;
+
+fn convert_scheme(scheme: &[u8], out: &mut [u8]) -> Called
+    ensures { ◌≡◌ {A = Filled} (told result, out.new) (filled (convert_scheme_bytes scheme.now out.old)) }
+{
+    let (s, _) = scheme_of(scheme)?;
+    written(convert::convert_scheme(out, s), Place::Scheme)
+}
 
 pub fn slushferret_convert_scheme(scheme: &[u8], out: &mut [u8], report: &mut [usize]) -> u8
     ensures { ◌≡◌ {A = ℕ × List ℕ × List ℕ} (result, out.new, report.new) (gives_wrote report.old (convert_scheme_bytes scheme.now out.old)) }
 {
-    let read = scheme_of(scheme);
-    let answer = read.answer;
-    let Reading::Done { next: _ } = answer else {
-        return tell(report, answer.number(), 1, answer.at(), 0, 0);
-    };
-    let s = read.scheme;
-    let written = convert::convert_scheme(out, s);
-    tell_writing(report, 1, written)
+    tell(report, convert_scheme(scheme, out))
 }
 
-fn convert_of(s: Scheme, matrix: &[u8], out: &mut [u8], report: &mut [usize]) -> u8
+fn convert_of(s: Scheme, matrix: &[u8], out: &mut [u8]) -> Called
     requires { T (accepted_scheme s) }
-    ensures { ◌≡◌ {A = ℕ × List ℕ × List ℕ} (result, out.new, report.new) (gives_wrote report.old (convert_against matrix.now out.old s)) }
+    ensures { ◌≡◌ {A = Filled} (told result, out.new) (filled (convert_against matrix.now out.old s)) }
 {
-    let h = s.head;
     let mut cells = [0u64; Things::CELLS];
-    let read = matrix_bytes::read_matrix_by_head(matrix, h, things::no_things(), &mut cells);
-    let answer = read.answer;
-    let Reading::Done { next: _ } = answer else {
-        return tell(report, answer.number(), 2, answer.at(), 0, 0);
-    };
-    let things = read.things;
-    let written = convert::convert_matrix(out, s, things, &cells);
-    tell_writing(report, 1, written)
+    let (things, _) = matrix_of(matrix, s.head, &mut cells)?;
+    written(
+        convert::convert_matrix(out, s, things, &cells),
+        Place::Scheme,
+    )
+}
+
+fn convert_matrix(scheme: &[u8], matrix: &[u8], out: &mut [u8]) -> Called
+    ensures { ◌≡◌ {A = Filled} (told result, out.new) (filled (convert_matrix_bytes scheme.now matrix.now out.old)) }
+{
+    let (s, _) = scheme_of(scheme)?;
+    convert_of(s, matrix, out)
 }
 
 pub fn slushferret_convert_matrix(
@@ -45,11 +48,5 @@ pub fn slushferret_convert_matrix(
 ) -> u8
     ensures { ◌≡◌ {A = ℕ × List ℕ × List ℕ} (result, out.new, report.new) (gives_wrote report.old (convert_matrix_bytes scheme.now matrix.now out.old)) }
 {
-    let read = scheme_of(scheme);
-    let answer = read.answer;
-    let Reading::Done { next: _ } = answer else {
-        return tell(report, answer.number(), 1, answer.at(), 0, 0);
-    };
-    let s = read.scheme;
-    convert_of(s, matrix, out, report)
+    tell(report, convert_matrix(scheme, matrix, out))
 }

@@ -2,58 +2,32 @@
 ghost use Rattle.std.specs.Prelude.{◌≡◌, List, ℕ, T};
 ghost use Rattle.model.specs.Accepted.{accepted_scheme};
 ghost use Rattle.robot.specs.Library.{gives_wrote, mark_against, mark_bytes, hold_bytes, release_bytes};
+ghost use Rattle.robot.specs.Inner.Calls.{Filled, told, filled};
 
-use crate::check::scheme_of;
-use crate::report::{tell, tell_writing};
-use hold::Marking;
+use crate::check::{matrix_of, scheme_of};
+use crate::report::{Called, Failure, Place, tell, written};
 use model::{Scheme, Things};
-use records::Reading;
 
-fn mark_of(
-    s: Scheme,
-    matrix: &[u8],
-    id: u16,
-    mark: bool,
-    out: &mut [u8],
-    report: &mut [usize],
-) -> u8
+fn mark_of(s: Scheme, matrix: &[u8], id: u16, mark: bool, out: &mut [u8]) -> Called
     requires { T (accepted_scheme s) }
-    ensures { ◌≡◌ {A = ℕ × List ℕ × List ℕ} (result, out.new, report.new) (gives_wrote report.old (mark_against mark matrix.now id out.old s)) }
+    ensures { ◌≡◌ {A = Filled} (told result, out.new) (filled (mark_against mark matrix.now id out.old s)) }
 {
-    let h = s.head;
     let mut cells = [0u64; Things::CELLS];
-    let read = matrix_bytes::read_matrix_by_head(matrix, h, things::no_things(), &mut cells);
-    let answer = read.answer;
-    let Reading::Done { next: _ } = answer else {
-        return tell(report, answer.number(), 2, answer.at(), 0, 0);
-    };
-    let marked = hold::mark_thing(read.things, id, mark);
-    let marking = marked.answer;
-    let things = marked.things;
-    if let Marking::Refused(number) = marking {
-        return tell(report, number, 2, 0, 0, 0);
+    let (mut things, _) = matrix_of(matrix, s.head, &mut cells)?;
+    if let Err(fault) = hold::mark_thing(&mut things, id, mark) {
+        return Err(Failure::at_start(fault, Place::Matrix));
     }
-    let written = matrix_write::write_matrix(out, s, things, &cells);
-    tell_writing(report, 2, written)
+    written(
+        matrix_write::write_matrix(out, s, things, &cells),
+        Place::Matrix,
+    )
 }
 
-fn mark_bytes(
-    scheme: &[u8],
-    matrix: &[u8],
-    id: u16,
-    mark: bool,
-    out: &mut [u8],
-    report: &mut [usize],
-) -> u8
-    ensures { ◌≡◌ {A = ℕ × List ℕ × List ℕ} (result, out.new, report.new) (gives_wrote report.old (mark_bytes mark scheme.now matrix.now id out.old)) }
+fn mark_bytes(scheme: &[u8], matrix: &[u8], id: u16, mark: bool, out: &mut [u8]) -> Called
+    ensures { ◌≡◌ {A = Filled} (told result, out.new) (filled (mark_bytes mark scheme.now matrix.now id out.old)) }
 {
-    let read = scheme_of(scheme);
-    let answer = read.answer;
-    let Reading::Done { next: _ } = answer else {
-        return tell(report, answer.number(), 1, answer.at(), 0, 0);
-    };
-    let s = read.scheme;
-    mark_of(s, matrix, id, mark, out, report)
+    let (s, _) = scheme_of(scheme)?;
+    mark_of(s, matrix, id, mark, out)
 }
 
 pub fn slushferret_hold(
@@ -65,7 +39,7 @@ pub fn slushferret_hold(
 ) -> u8
     ensures { ◌≡◌ {A = ℕ × List ℕ × List ℕ} (result, out.new, report.new) (gives_wrote report.old (hold_bytes scheme.now matrix.now id out.old)) }
 {
-    mark_bytes(scheme, matrix, id, true, out, report)
+    tell(report, mark_bytes(scheme, matrix, id, true, out))
 }
 
 pub fn slushferret_release(
@@ -77,5 +51,5 @@ pub fn slushferret_release(
 ) -> u8
     ensures { ◌≡◌ {A = ℕ × List ℕ × List ℕ} (result, out.new, report.new) (gives_wrote report.old (release_bytes scheme.now matrix.now id out.old)) }
 {
-    mark_bytes(scheme, matrix, id, false, out, report)
+    tell(report, mark_bytes(scheme, matrix, id, false, out))
 }

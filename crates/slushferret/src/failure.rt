@@ -1,16 +1,17 @@
 // Why a tool didn't do its errand, and the status that the program then ends with.
 use crate::said::say;
 use crate::wrong_use::WrongUse;
+use faults::Fault;
 use files::{Told, tell};
 use std::alloc::AllocError;
 use std::fmt;
 use std::process::ExitCode;
 
-// A file that is refused: its name as it was given, the outline's number, and the position of the fault.
+// A file that is refused: its name as it was given, the fault, which is shown as the outline's number, and its position.
 #[derive(Clone, Copy, Debug, PartialEq, Eq)]
 pub(crate) struct Refusal<'a> {
     pub(crate) name: &'a str,
-    pub(crate) number: u8,
+    pub(crate) fault: Fault,
     pub(crate) position: usize,
 }
 
@@ -19,7 +20,7 @@ impl fmt::Display for Refusal<'_> {
         write!(
             f,
             "{}: refused with number {} at position {}",
-            self.name, self.number, self.position
+            self.name, self.fault, self.position
         )
     }
 }

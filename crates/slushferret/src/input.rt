@@ -1,7 +1,8 @@
 // An input file.
 use crate::failure::Refusal;
+use faults::Fault;
 use files::{LONGEST, Told, read_file, tell, text_of};
-use records::Reading;
+use records::Refused;
 
 // A file's name as it was given, and its bytes.
 #[derive(Drop)]
@@ -27,19 +28,16 @@ impl<'a> Input<'a> {
         Ok(Input { name, bytes })
     }
 
-    pub(crate) fn refused(&self, number: u8, position: usize) -> Refusal<'a> {
+    pub(crate) fn refused(&self, fault: Fault, position: usize) -> Refusal<'a> {
         Refusal {
             name: self.name,
-            number,
+            fault,
             position,
         }
     }
 
-    // What a reader answers to these bytes.
-    pub(crate) fn accepted(&self, answer: Reading) -> Result<(), Refusal<'a>> {
-        match answer {
-            Reading::Done { next: _ } => Ok(()),
-            Reading::Refused { number, at } => Err(self.refused(number, at)),
-        }
+    // By a reader, at a record of these bytes.
+    pub(crate) fn refused_at(&self, refused: Refused) -> Refusal<'a> {
+        self.refused(refused.fault, refused.at)
     }
 }

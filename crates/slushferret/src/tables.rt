@@ -2,6 +2,7 @@
 use crate::failure::{Failure, Refusal};
 use crate::input::Input;
 use crate::report::{AtFault, Report};
+use faults::Fault;
 use files::{LONGEST, Told};
 
 #[derive(Drop)]
@@ -22,12 +23,12 @@ impl<'a> Tables<'a> {
     }
 
     // The report says which of the two files is at fault.
-    fn refused(&self, number: u8, report: Report) -> Refusal<'a> {
+    fn refused(&self, fault: Fault, report: Report) -> Refusal<'a> {
         let file = match report.at_fault {
             AtFault::Scheme => &self.scheme,
             AtFault::Matrix => &self.matrix,
         };
-        file.refused(number, report.position)
+        file.refused(fault, report.position)
     }
 
     // What a function of the robots' library writes, which is given both files, room for the largest file, and a report. It is called in a closure: by
@@ -49,7 +50,7 @@ impl<'a> Tables<'a> {
         );
         let report = Report::from(report);
         if number != 0 {
-            return Err(Failure::NothingWritten(self.refused(number, report)));
+            return Err(Failure::NothingWritten(self.refused(Fault::from(number), report)));
         }
         out.truncate(report.written);
         Ok((out, report))

@@ -1,46 +1,50 @@
 // The tool `check`: whether a file is a scheme, and another a matrix of it, and how much they hold.
-use crate::failure::Failure;
+use crate::failure::{Failure, Refusal};
 use crate::input::Input;
 use crate::said::say;
 use model::{Scheme, Things};
 use totals::Totals;
 
 fn check_scheme<'a>(rt: &HostRuntime, scheme: &Input<'a>) -> Result<Scheme, Failure<'a>> {
-    let read = scheme_bytes::read_scheme(&scheme.bytes, scheme_bytes::no_scheme());
-    scheme.accepted(read.answer).map_err(Failure::Refused)?;
+    let mut s = scheme_bytes::no_scheme();
+    if let Err(refused) = scheme_bytes::read_scheme(&scheme.bytes, &mut s) {
+        return Err(Failure::Refused(scheme.refused_at(refused)));
+    }
     let name = scheme.name;
-    let h = read.scheme.head;
+    let Head {
+        rights,
+        types,
+        count,
+        ..
+    } = s.head;
     say(
         rt,
-        format_args!(
-            "{name}: a scheme of {} rights, {} types, {} commands",
-            h.rights, h.types, h.count
-        ),
+        format_args!("{name}: a scheme of {rights} rights, {types} types, {count} commands"),
     )?;
-    Ok(read.scheme)
+    Ok(s)
+}
+
+fn totals_of<'a>(s: Scheme, matrix: &Input<'a>) -> Result<Totals, Refusal<'a>> {
+    let mut th = things::no_things();
+    let mut cells = [0; Things::CELLS];
+    if let Err(refused) = matrix_bytes::read_matrix(&matrix.bytes, s, &mut th, &mut cells) {
+        return Err(matrix.refused_at(refused));
+    }
+    totals::totals(s, th, &cells).map_err(|fault| matrix.refused(fault, 0))
 }
 
 fn check_matrix<'a>(rt: &HostRuntime, s: Scheme, matrix: &Input<'a>) -> Result<(), Failure<'a>> {
-    let mut cells = [0; Things::CELLS];
-    let read = matrix_bytes::read_matrix(&matrix.bytes, s, things::no_things(), &mut cells);
-    matrix.accepted(read.answer).map_err(Failure::Refused)?;
-    match totals::totals(s, read.things, &cells) {
-        Totals::Counted {
-            things,
-            cells,
-            entries,
-        } => {
-            let name = matrix.name;
-            say(
-                rt,
-                format_args!(
-                    "{name}: a matrix of {things} things, {cells} cells, {entries} entries"
-                ),
-            )?;
-            Ok(())
-        }
-        Totals::Refused(number) => Err(Failure::Refused(matrix.refused(number, 0))),
-    }
+    let Totals {
+        things,
+        cells,
+        entries,
+    } = totals_of(s, matrix).map_err(Failure::Refused)?;
+    let name = matrix.name;
+    say(
+        rt,
+        format_args!("{name}: a matrix of {things} things, {cells} cells, {entries} entries"),
+    )?;
+    Ok(())
 }
 
 // Both files are loaded first.

@@ -3,7 +3,6 @@ use crate::failure::Failure;
 use crate::output::write_one;
 use crate::tables::Tables;
 use crate::wrong_use::WrongUse;
-use lines::IdWord;
 
 // The words that both are given.
 #[derive(Clone, Copy, Debug, PartialEq, Eq)]
@@ -15,10 +14,7 @@ pub(crate) struct Marked<'a> {
 }
 
 fn id_of(word: &[u8]) -> Result<u16, WrongUse<'_>> {
-    match lines::id_in(word) {
-        IdWord::Id(id) => Ok(id),
-        IdWord::Other => Err(WrongUse::NotAnId(word)),
-    }
+    lines::id_in(word).ok_or(WrongUse::NotAnId(word))
 }
 
 // By a function of the robots' library, which gets the id between the files and the room for its output.

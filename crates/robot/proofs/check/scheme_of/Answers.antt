@@ -1,8 +1,12 @@
--- The bytes are read into no scheme.
+-- A scheme read into a table that holds none.
 -- Assumes nothing.
 use mathlib.Core.Path.{ap, ◌∙◌}
-use Rattle.scheme_bytes.specs.Answers.{read_scheme}
+use Rattle.std.specs.Prelude.{Err}
+use Rattle.robot.proofs.CallLaws.{scheme_ok, scheme_err}
 use Rattle.robot.proofs.check.scheme_of.Goals as goal
 
-pub returns : goal.returns
-returns c = c.read_scheme.ensures ∙ ap (read_scheme _) c.no_scheme.ensures
+pub returns-in-Ok : goal.returns-in-Ok
+returns-in-Ok c = scheme_ok _ c.no_scheme-s.ensures c.in-Ok.ensures
+
+pub returns-in-Err : goal.returns-in-Err
+returns-in-Err c = ap Err c.at_record.ensures ∙ scheme_err _ c.no_scheme-s.ensures c.in-Err.ensures

@@ -1,21 +1,21 @@
--- A scheme is read, then a thing of a matrix against it is marked.
+-- A scheme is read, and then what the function makes of it.
 -- Assumes nothing.
-use Rattle.robot.specs.Library.{gives_wrote, not_written, mark_against, mark_bytes}
-use Rattle.robot.proofs.CallLaws.{scheme_accepted, scheme_read, scheme_refused, not_written_lem}
+use mathlib.Core.Path.{ap, ◌∙◌}
+use Rattle.std.proofs.lemmas.Result.{err_from_is_err_and}
+use Rattle.robot.specs.Library.{not_written, mark_against, mark_bytes}
+use Rattle.robot.specs.Inner.Calls.{filled}
+use Rattle.robot.proofs.CallLaws.{found_accepted, scheme_read, scheme_refused}
 use Rattle.robot.proofs.mark_bytes.mark_bytes.Goals as goal
 
-pub returns-in_default : goal.returns-in_default
+pub returns-in_err-s : goal.returns-in_err-s
 unfolding mark_bytes
-returns-in_default c =
-    scheme_refused (gives_wrote _) (not_written _) (λ s c. mark_against _ _ _ _ s) _ _ c.scheme_of-read.ensures _ _ c.in_default.is
-    _ _ c.number.ensures c.at.ensures (not_written_lem _ _ _ _ _ _ _ c.tell.ensures)
+returns-in_err-s c =
+    let p = err_from_is_err_and c.from_residual.result c.from_residual.ensures.1 in
+    rw (p.1, p.2) (ap filled (scheme_refused (not_written _) (λ s n. mark_against _ _ _ _ s) _ c.in_err-s.ensures))
 
 pub mark_of-requires : goal.mark_of-requires
-mark_of-requires c =
-    scheme_accepted _ (λ i. (c.shared_slice_known-1.given i).fits) _ c.scheme_of-read.ensures _ c.in-Done.is
+mark_of-requires c = found_accepted _ (λ i. (c.shared_slice_known-1.given i).fits) c.in_ok-s.ensures
 
 pub returns : goal.returns
 unfolding mark_bytes
-returns c =
-    scheme_read (gives_wrote _) (not_written _) (λ s n. mark_against _ _ _ _ s) _ _ c.scheme_of-read.ensures _ c.in-Done.is
-    c.mark_of.ensures
+returns c = c.mark_of.ensures ∙ ap filled (scheme_read (not_written _) (λ s n. mark_against _ _ _ _ s) _ c.in_ok-s.ensures)

@@ -1,9 +1,0 @@
--- The five numbers, one after the other.
--- Assumes nothing.
-use Rattle.robot.specs.Library.{reported}
-use Rattle.robot.proofs.report.tell_cut.Goals as goal
-
-pub returns : goal.returns
-unfolding reported
-returns c =
-    rw (c.put-5.ensures, c.put-4.ensures, c.put-3.ensures, c.put-2.ensures, c.put.ensures)
