@@ -22,8 +22,7 @@ use Rattle.laws.proofs.Bools.{is_true, and_left, and_right}
 use Rattle.laws.proofs.Differ.{constructors_differ}
 use Rattle.model.proofs.StepsTaken.{steps_taken}
 use Rattle.conversion.specs.Conversion.{conversion_fault, convertible, convert_scheme, convert_matrix}
-use Rattle.conversion.specs.Demand3.{Mirrors, Agree as OnPaper}
-use Rattle.conversion.specs.Demand3.{Within}
+use Rattle.conversion.specs.Demand3.{Mirrors, Agree as OnPaper, Within}
 use Rattle.conversion.proofs.Converted.{converts}
 use Rattle.conversion.proofs.Demand3.{demand3}
 use Rattle.conversion.proofs.Robot.{still_mirrors}

@@ -21,7 +21,7 @@ use Rattle.model.proofs.Joined.{joined}
 use Rattle.request_list.specs.List.{read_list}
 use Rattle.engine.specs.Step.{answered, request_on}
 use Rattle.engine.specs.List.{run_on}
-use Rattle.engine.specs.declared.answers.RunAnswer.TheVariants.{Refused}
+use Rattle.engine.specs.Answers.{Refused}
 use Rattle.engine.proofs.ListLaws.{replies_stored}
 use Rattle.robot.specs.Library.{run_bytes}
 use Rattle.agreement.specs.LibraryAgrees.{stored, Bytes, IsScheme, IsMatrix}

@@ -1,6 +1,7 @@
 -- Which numbers the functions on values and on single records can give, where success passes and each refusal of an answer does: readings against a head,
 -- writing, conversion, a step, a list and totals. `Numbers` puts them together.
 -- Assumes nothing.
+use Rattle.std.specs.Prelude.{Result, Ok, Err}
 use Prim.Native.Nat.{ℕ, zero, suc, ◌+◌, ◌*◌, ◌≤◌, ◌<◌}
 use native.Mathlib.Omega.{arith}
 use mathlib.Core.Path.{◌≡◌, refl, subst}
@@ -17,15 +18,18 @@ use Rattle.model.specs.Answers.{reply_of, reply_to, reply_width}
 use Rattle.model.specs.Seats.{Matrix, seats}
 use Rattle.model.specs.Promises.{tells_request}
 use Rattle.model.specs.Accepted.{all_from, accepted_scheme, accepted_matrix}
-use Rattle.model.specs.declared.Command.{Command}
 use Rattle.model.specs.declared.Head.{Head}
 use Rattle.model.specs.declared.Scheme.{Scheme}
 use Rattle.model.specs.declared.Things.{Things}
 use Rattle.model.proofs.Numbers.{request_numbers}
+use Rattle.faults.specs.Numbers.{number_of}
+use Rattle.faults.proofs.NumberLaws.{numbered}
 use Rattle.records.specs.Reading.{Read, got, fault}
 use Rattle.records.specs.Front.{Refusal, against}
+use Rattle.records.specs.Results.{refused as refused_at, item_of}
+use Rattle.records.specs.declared.Refused.{Refused}
 use Rattle.records.specs.Writing.{write_bytes}
-use Rattle.records.specs.Told.{of_record, of_reading, of_writing}
+use Rattle.records.specs.Told.{Told, of_record, of_reading, of_writing}
 use Rattle.records.specs.Outcome.RecordAnswer.{RecordAnswer}
 use Rattle.records.specs.Outcome.RecordAnswer as record_answer
 use Rattle.records.specs.Outcome.Reading.{Reading}
@@ -34,11 +38,7 @@ use Rattle.records.specs.Outcome.Writing.{Writing}
 use Rattle.records.specs.Outcome.Writing as writing
 use Rattle.robot.specs.Library.{writing_by}
 use Rattle.records.proofs.Faults.{fine, passed_record}
-use Rattle.command_bytes.specs.Answers.{as_head_at, as_command_at, of_head_at}
-use Rattle.matrix_records.specs.Content.{Stated, ThingRecord, CellRecord}
-use Rattle.matrix_records.specs.Answers as matrix_records
-use Rattle.matrix_records.specs.Answers.{as_thing_at, as_cell_at}
-use Rattle.matrix_records.specs.Told.{of_head, of_thing, of_cell}
+use Rattle.matrix_records.specs.Answers.{named}
 use Rattle.matrix_bytes.specs.Read.{rest, matrix}
 use Rattle.matrix_bytes.specs.Answers.{as_matrix}
 use Rattle.request_bytes.specs.Told.{of_request_reading}
@@ -46,9 +46,9 @@ use Rattle.request_bytes.specs.Outcome.RequestReading.{RequestReading}
 use Rattle.request_bytes.specs.Outcome.RequestReading as request_reading
 use Rattle.request_list.specs.List.{Listed, read_list}
 use Rattle.engine.specs.Step.{answered, request_on}
-use Rattle.engine.specs.List.{Result, run_answer, of_run, refused_run, run_on, run_quietly}
-use Rattle.engine.specs.declared.answers.Ran.{Ran as Run}
-use Rattle.engine.specs.declared.answers.RunAnswer.TheVariants as ended
+use Rattle.engine.specs.List.{Result as RunResult, run_answer, of_run, refused_run, run_on, run_quietly}
+use Rattle.engine.specs.Answers.{Ran as Run}
+use Rattle.engine.specs.Answers as ended
 use Rattle.totals.specs.Totals.{memory_totals, totals_of, of_totals}
 use Rattle.totals.specs.Outcome as total
 use Rattle.conversion.specs.Conversion.{conversion_fault}
@@ -60,7 +60,7 @@ use Rattle.agreement.proofs.FaultNumbers.{passed_fault, conversion_fault_lem, un
 use Rattle.agreement.proofs.ReadNumbers.{passed, passed_request}
 use Rattle.agreement.proofs.ReadNumbers.{matrix_only, matrix_rest_only, list_only}
 
--- ---- where success passes, and each refusal of an answer does, its number does
+-- ---- where success passes, and each refusal of an answer does, its number does: that of the fault of a number is this number
 module _ (ok : ℕ → Bool) (None-passes : T (ok 0)) where
   pub of_record_lem : (a : RecordAnswer) → T (passed_record ok a) → T (ok (of_record a).number)
   of_record_lem (record_answer.Record kind start len) t = None-passes
@@ -75,26 +75,16 @@ module _ (ok : ℕ → Bool) (None-passes : T (ok 0)) where
   of_request request_reading.End t = None-passes
   of_request (request_reading.Refused k at) t = t
 
-  pub of_head_lem : (r : Read ℕ Refusal Head) → T (fine (λ f. ok f.number) r) → T (ok (of_head_at (as_head_at r)).number)
-  of_head_lem (got h next) t = None-passes
-  of_head_lem (fault f) t = t
+  -- what a record says, where what tells it says 0 of a value and its own number of a refusal
+  module _ {B : Type 0} (tell : Result (B × ℕ) Refused → Told) (none-told : (b : B) (next : ℕ) → (tell (Ok (b, next))).number ≡ 0)
+      (refusal-told : (r : Refused) → (tell (Err r)).number ≡ number_of r.fault) where
+    pub of_item : (r : Read ℕ Refusal B) → T (fine (λ f. ok f.number) r) → T (ok (tell (item_of r)).number)
+    of_item (got b next) t = rw (none-told b next) None-passes
+    of_item (fault f) t = rw (refusal-told (refused_at f.number f.at), numbered f.number) t
 
-  pub of_command : (r : Read ℕ Refusal Command) → T (fine (λ f. ok f.number) r) → T (ok (of_reading (as_command_at r).answer).number)
-  of_command (got c next) t = None-passes
-  of_command (fault f) t = t
-
-  pub of_matrix_head : (kind : ℕ) (r : Read ℕ Refusal Stated) → T (fine (λ f. ok f.number) r) → T (ok (of_head (matrix_records.as_head_at kind r)).number)
-  of_matrix_head kind (got st next) t = None-passes
-  of_matrix_head kind (fault f) t = t
-
-  pub of_thing_lem : (kind : ℕ) (r : Read ℕ Refusal ThingRecord) → T (fine (λ f. ok f.number) r) → T (ok (of_thing (as_thing_at kind r)).number)
-  of_thing_lem kind (got x next) t = None-passes
-  of_thing_lem kind (fault f) t = t
-
-  pub of_cell_lem : (n : ℕ) (ids : List ℕ) (kind : ℕ) (r : Read ℕ Refusal CellRecord) → T (fine (λ f. ok f.number) r) →
-      T (ok (of_cell (as_cell_at n ids kind r)).number)
-  of_cell_lem n ids kind (got c next) t = None-passes
-  of_cell_lem n ids kind (fault f) t = t
+    pub of_named : {A : Type 0} (g : A → B) (r : Read ℕ Refusal A) → T (fine (λ f. ok f.number) r) → T (ok (tell (item_of (named g r))).number)
+    of_named g (got a next) t = of_item (got (g a) next) t
+    of_named g (fault f) t = of_item (fault f) t
 
   of_run_lem : (n : ℕ) (a : Reading) → T (passed ok a) → T (ok (of_run (run_answer n a)).number)
   of_run_lem n (reading.Done next) t = None-passes
@@ -242,7 +232,7 @@ module _ (ok : ℕ → Bool) (None-passes : T (ok 0)) (twenty-seven : T (ok 27))
     unfolding run_on
     of_list nine out = by (accepted_scheme s && accepted_matrix s.head m) (leb (reply_width * length the_list.requests) (length out)) _ list_told
       where
-        by : (right fits : Bool) (r : Result) → T (ok (of_run r.ran.answer).number) →
+        by : (right fits : Bool) (r : RunResult) → T (ok (of_run r.ran.answer).number) →
             T (ok (of_run (cond right (cond fits r (refused_run m out 9)) (refused_run m out 27)).ran.answer).number)
         by true true r t = t
         by true false r t = nine

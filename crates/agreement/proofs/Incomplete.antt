@@ -12,8 +12,7 @@ use Rattle.model.specs.Seats.{Matrix, stands_for}
 use Rattle.model.specs.declared.Scheme.{Scheme}
 use Rattle.conversion.specs.Conversion.{tests_presence}
 use Rattle.conversion.specs.Demand3.{Within}
-use Rattle.scheme_bytes.specs.Answers.{read_scheme}
-use Rattle.scheme_bytes.specs.Answers.{SchemeAnswer}
+use Rattle.scheme_bytes.specs.Answers.{read_scheme, SchemeAnswer}
 use Rattle.request_list.specs.List.{list_bytes}
 use Rattle.engine.specs.List.{Result, run_on}
 use Rattle.robot.specs.Library.{Ran, run_bytes}

@@ -22,9 +22,8 @@ use Rattle.model.proofs.NeverAgain.{run_append}
 use Rattle.records.specs.Front.{Refusal}
 use Rattle.records.specs.Reading.{Read, got, fault}
 use Rattle.records.specs.Outcome.Reading.{Done, Refused}
-use Rattle.scheme_bytes.specs.Answers.{as_scheme, read_scheme}
+use Rattle.scheme_bytes.specs.Answers.{as_scheme, read_scheme, SchemeAnswer}
 use Rattle.scheme_bytes.specs.Read.{scheme as reads_scheme}
-use Rattle.scheme_bytes.specs.Answers.{SchemeAnswer}
 use Rattle.scheme_bytes.proofs.FunctionTrips.{function_trips as scheme_trips}
 use Rattle.matrix_bytes.specs.Answers.{as_matrix, read_matrix}
 use Rattle.matrix_bytes.specs.Read.{matrix as reads_matrix}

@@ -12,8 +12,7 @@ use Rattle.model.specs.Request.{Request}
 use Rattle.model.specs.Answers.{reply_width}
 use Rattle.model.specs.Seats.{Matrix, no_things, stands_for}
 use Rattle.model.specs.declared.Scheme.{Scheme}
-use Rattle.conversion.specs.Conversion.{convert_scheme}
-use Rattle.conversion.specs.Conversion.{tests_presence}
+use Rattle.conversion.specs.Conversion.{convert_scheme, tests_presence}
 use Rattle.conversion.specs.Demand3.{Within}
 use Rattle.conversion.proofs.Converted.{converts}
 use Rattle.request_list.specs.List.{list_bytes}

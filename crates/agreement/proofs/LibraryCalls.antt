@@ -21,8 +21,7 @@ use Rattle.records.specs.Outcome.Reading.{Reading}
 use Rattle.records.specs.Outcome.Reading as reading
 use Rattle.records.specs.Outcome.Writing.{Writing}
 use Rattle.records.specs.Outcome.Writing as writing
-use Rattle.scheme_bytes.specs.Answers.{read_scheme}
-use Rattle.scheme_bytes.specs.Answers.{SchemeAnswer}
+use Rattle.scheme_bytes.specs.Answers.{read_scheme, SchemeAnswer}
 use Rattle.scheme_bytes.proofs.FunctionTrips.{function_trips as scheme_trips}
 use Rattle.matrix_bytes.specs.Answers.{read_matrix}
 use Rattle.matrix_bytes.specs.MatrixAnswer.{MatrixAnswer}

@@ -33,8 +33,7 @@ use Rattle.matrix_bytes.proofs.FunctionTrips.{read_got}
 use Rattle.moving.specs.Answers.{after_writing, by_writing, as_moved, forward_into, back_into}
 use Rattle.moving.specs.Moves.{old_image, forward, back}
 use Rattle.moving.specs.Old.{highest_listed}
-use Rattle.moving.specs.Outcome.Moved.{Moved}
-use Rattle.moving.specs.Outcome.Moved.{Done}
+use Rattle.moving.specs.Outcome.Moved.{Moved, Done}
 use Rattle.moving.proofs.FunctionMoves.{function_moves}
 use Rattle.moving.proofs.Moving.{moves_keep}
 use Rattle.robot.specs.Library.{after_scheme, with_scheme, Wrote, not_written, moving_by, moved, forward_bytes, back_bytes}

@@ -28,8 +28,8 @@ use Rattle.matrix_bytes.proofs.RoundTrips.{round_trips}
 use Rattle.matrix_bytes.proofs.AcceptedTrip.{accepted_iff_read}
 use Rattle.request_list.specs.List.{Listed, read_list}
 use Rattle.engine.specs.List.{Result, run_answer, replies_to, run_on}
-use Rattle.engine.specs.declared.answers.RunAnswer.{RunAnswer}
-use Rattle.engine.specs.declared.answers.RunAnswer.TheVariants as ended
+use Rattle.engine.specs.Answers.{RunAnswer}
+use Rattle.engine.specs.Answers as ended
 use Rattle.robot.specs.Library.{Called, Ran, bytes_after, ended_by, not_run, run_matrix, run_against, run_bytes}
 use Rattle.robot.specs.Inner.Parts.{ending_by}
 use Rattle.model.proofs.Joined.{run_kept}

@@ -18,8 +18,7 @@ use Rattle.matrix_bytes.specs.Read.{matrix}
 use Rattle.moving.specs.Old.{old_head, old_content, highest_listed, old_matrix}
 use Rattle.moving.specs.Moves.{forward, back}
 use Rattle.moving.specs.Answers.{after_writing, as_moved, forward_into, back_into, of_moved}
-use Rattle.moving.specs.Outcome.Moved.{Moved}
-use Rattle.moving.specs.Outcome.Moved.{Done, Refused}
+use Rattle.moving.specs.Outcome.Moved.{Moved, Done, Refused}
 use Rattle.robot.specs.Library.{moving_by}
 use Rattle.agreement.proofs.ReadNumbers.{rest_fine, matrix_fine}
 use Rattle.agreement.proofs.FunctionNumbers.{bytes_written}

@@ -22,14 +22,14 @@ use Rattle.records.specs.Outcome.Reading.{Reading}
 use Rattle.records.specs.Outcome.Reading as reading
 use Rattle.records.proofs.Faults.{only_front}
 use Rattle.command_bytes.specs.Read.{head_at, command_at}
-use Rattle.command_bytes.specs.Answers.{read_head, read_command}
-use Rattle.scheme_bytes.specs.Answers.{read_scheme}
-use Rattle.scheme_bytes.specs.Answers.{SchemeAnswer}
+use Rattle.command_bytes.specs.Answers.{read_head, read_command, of_head_at, of_command_at}
+use Rattle.scheme_bytes.specs.Answers.{read_scheme, SchemeAnswer}
 use Rattle.scheme_bytes.specs.Write.{scheme_bytes, write_scheme}
 use Rattle.matrix_records.specs.Content.{listed}
 use Rattle.matrix_records.specs.Read.{head, thing, cell}
 use Rattle.matrix_records.specs.Answers as matrix_records
-use Rattle.matrix_records.specs.Answers.{kind_at, any_record_at, read_thing, read_cell}
+use Rattle.matrix_records.specs.Answers.{kind_at, any_record_at, found_head, found_thing, found_cell, read_thing, read_cell}
+use Rattle.matrix_records.specs.Told.{of_head, of_thing, of_cell}
 use Rattle.matrix_bytes.specs.Answers.{read_matrix, read_matrix_by_head, read_rest}
 use Rattle.matrix_bytes.specs.Write.{matrix_bytes, write_matrix, write_matrix_by_head}
 use Rattle.matrix_bytes.specs.MatrixAnswer.{MatrixAnswer}
@@ -49,7 +49,7 @@ use Rattle.agreement.specs.Numbers.{table, of_a_record, of_a_request, of_a_head,
 use Rattle.agreement.specs.Numbers.{one_of, Numbers}
 use Rattle.agreement.proofs.ReadNumbers.{passed}
 use Rattle.agreement.proofs.ReadNumbers.{head_only, command_only, matrix_head_only, matrix_thing_only, matrix_cell_only, scheme_only, matrix_only, request_only, list_only}
-use Rattle.agreement.proofs.FunctionNumbers.{of_record_lem, of_reading_lem, of_request, of_head_lem, of_command, of_matrix_head, of_thing_lem, of_cell_lem, against_head, any_record_lem, a_matrix_lem, a_rest_lem, if_may, of_scheme, of_cells, of_each, bytes_written, scheme_into_lem, matrix_into_lem, of_request_on, of_list, of_quiet_list, of_totals_lem, writing_number}
+use Rattle.agreement.proofs.FunctionNumbers.{of_record_lem, of_reading_lem, of_request, of_item, of_named, against_head, any_record_lem, a_matrix_lem, a_rest_lem, if_may, of_scheme, of_cells, of_each, bytes_written, scheme_into_lem, matrix_into_lem, of_request_on, of_list, of_quiet_list, of_totals_lem, writing_number}
 use Rattle.agreement.proofs.MarkNumbers.{of_mark, of_mark_in_matrix, of_marked_bytes}
 use Rattle.agreement.proofs.MoveNumbers.{of_forward, of_back, moving_number}
 
@@ -136,28 +136,35 @@ unfolding all any all_from one_of table of_a_record of_a_request of_a_head of_a_
 numbers = record {
   in_table = tt;
   a_record = λ bytes at kinds. of_record_lem (one_of of_a_record) tt (record_at bytes at kinds) (only_front (one_of of_a_record) tt tt bytes at kinds);
-  a_head = λ bytes at. of_head_lem (one_of of_a_head) tt (head_at bytes at) (head_only (one_of of_a_head) tt tt tt tt tt bytes at);
+  a_head = λ bytes at.
+      let ok = one_of of_a_head in
+      of_item ok tt of_head_at (λ b next. refl) (λ r. refl) (head_at bytes at) (head_only ok tt tt tt tt tt bytes at);
   a_command = λ bytes at h.
       let ok = one_of (27 ∷ of_a_command) in
       let read = command_at bytes h at in
-      of_command ok tt (against (accepted_head h) read) (against_head ok tt (accepted_head h) read (command_only ok tt tt tt tt tt tt bytes h at));
+      let fine-read = command_only ok tt tt tt tt tt tt bytes h at in
+      of_item ok tt of_command_at (λ b next. refl) (λ r. refl) (against (accepted_head h) read)
+      (against_head ok tt (accepted_head h) read fine-read);
   a_scheme = λ bytes held. of_reading_lem (one_of of_a_scheme) tt (read_scheme bytes held).answer (scheme_only (one_of of_a_scheme) tt tt tt tt tt tt tt bytes held);
   any_record = λ bytes at. any_record_lem (leb (at + 4) (length bytes)) (leb (at + 4 + number2 bytes at) (length bytes)) (kind_at bytes at) (at + 4) (number2 bytes at) at;
   a_matrix_head = λ bytes at kinds h.
       let ok = one_of (27 ∷ of_a_head) in
       let read = in_record bytes kinds (λ kind. head h) at in
       let fine-read = matrix_head_only ok tt tt tt tt h bytes kinds tt at in
-      of_matrix_head ok tt (kind_at bytes at) (against (accepted_head h) read) (against_head ok tt (accepted_head h) read fine-read);
+      of_named ok tt of_head (λ b next. refl) (λ r. refl) (found_head (kind_at bytes at)) (against (accepted_head h) read)
+      (against_head ok tt (accepted_head h) read fine-read);
   a_thing = λ bytes at kinds h highest last.
       let ok = one_of (27 ∷ of_a_part) in
       let read = in_record bytes kinds (thing h highest last) at in
       let fine-read = matrix_thing_only ok tt tt tt tt h bytes kinds tt tt highest last at in
-      of_thing_lem ok tt (kind_at bytes at) (against (accepted_head h) read) (against_head ok tt (accepted_head h) read fine-read);
+      of_named ok tt of_thing (λ b next. refl) (λ r. refl) (found_thing (kind_at bytes at)) (against (accepted_head h) read)
+      (against_head ok tt (accepted_head h) read fine-read);
   a_cell = λ bytes at kinds h th n last.
       let ok = one_of (27 ∷ of_a_part) in
       let read = in_record bytes kinds (λ kind. cell h (listed n th) last) at in
       let fine-read = matrix_cell_only ok tt tt tt tt h bytes kinds tt tt (listed n th) last at in
-      of_cell_lem ok tt n th.ids (kind_at bytes at) (against (accepted_head h) read) (against_head ok tt (accepted_head h) read fine-read);
+      of_named ok tt of_cell (λ b next. refl) (λ r. refl) (found_cell n th.ids (kind_at bytes at)) (against (accepted_head h) read)
+      (against_head ok tt (accepted_head h) read fine-read);
   a_matrix = λ bytes s things cells. a_matrix_lem (accepted_scheme s && eqb (length cells) 2304) s.head bytes things cells;
   a_matrix_by_head = λ bytes h things cells. a_matrix_lem (accepted_head h && eqb (length cells) 2304) h bytes things cells;
   a_rest = λ bytes at h highest count things cells.

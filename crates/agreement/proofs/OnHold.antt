@@ -20,8 +20,7 @@ use Rattle.model.specs.declared.Head.{Head}
 use Rattle.model.specs.declared.Scheme.{Scheme}
 use Rattle.model.proofs.Find.{is_known}
 use Rattle.model.proofs.Joined.{joined}
-use Rattle.conversion.specs.Demand3.{Mirrors}
-use Rattle.conversion.specs.Demand3.{Within}
+use Rattle.conversion.specs.Demand3.{Mirrors, Within}
 use Rattle.engine.specs.Step.{answered, request_on}
 use Rattle.hold.specs.Marking.{marked_if, mark_on_paper}
 use Rattle.hold.specs.OnHold.{takes_part, refused_early, IsOnHold}

@@ -22,8 +22,7 @@ use Rattle.model.specs.declared.Scheme.{Scheme}
 use Rattle.model.specs.declared.Things.{Things}
 use Rattle.records.specs.Reading.{Read, got, fault, Reader, Body, ◌>>=◌, ◌>>◌, check, steps, byte, field, number}
 use Rattle.records.specs.Front.{Refusal, in_record}
-use Rattle.records.specs.Outcome.Reading.{Reading}
-use Rattle.records.specs.Outcome.Reading.{Done, Refused}
+use Rattle.records.specs.Outcome.Reading.{Reading, Done, Refused}
 use Rattle.records.proofs.Faults.{fine, Only, only_then, only_next, only_check, only_steps, only_byte, only_number, only_field, only_record}
 use Rattle.command_bytes.specs.Read as scheme_records
 use Rattle.command_bytes.specs.Read.{named, thing, test, code_of, by_code, operation, type_in, types_in, tests_in, operations_in, command_from, command, head_at, command_at}

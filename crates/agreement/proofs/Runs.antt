@@ -28,7 +28,7 @@ use Rattle.request_list.specs.Write.{Writable}
 use Rattle.request_list.proofs.ListTrips.{list_trips}
 use Rattle.engine.proofs.ListLaws.{replies_length, replies_many}
 use Rattle.engine.specs.List.{Result, run_answer, replies_to, refused_run, run_on}
-use Rattle.engine.specs.declared.answers.RunAnswer.TheVariants as ended
+use Rattle.engine.specs.Answers as ended
 use Rattle.agreement.specs.Replies.{obeyed_by}
 use Rattle.agreement.specs.Agreement.{left_in, left_by, CarriedOut}
 use Rattle.agreement.proofs.Obeyed.{replies, told, AllDone, replies_front}

@@ -22,7 +22,7 @@ use Rattle.matrix_bytes.specs.Answers.{read_matrix}
 use Rattle.matrix_bytes.specs.MatrixAnswer.{MatrixAnswer}
 use Rattle.request_list.specs.List.{read_list, list_bytes}
 use Rattle.engine.specs.List.{Result, run_on}
-use Rattle.engine.specs.declared.answers.RunAnswer.TheVariants.{Whole, Refused}
+use Rattle.engine.specs.Answers.{Whole, Refused}
 use Rattle.convert.specs.Convert.{convert_scheme_into, convert_matrix_into}
 use Rattle.agreement.specs.Replies.{ToEach, obeyed_by, besides_steps}
 

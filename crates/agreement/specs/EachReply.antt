@@ -10,7 +10,7 @@ use Rattle.model.specs.declared.Scheme.{Scheme}
 use Rattle.request_list.specs.List.{read_list}
 use Rattle.engine.specs.Step.{request_on}
 use Rattle.engine.specs.List.{run_on}
-use Rattle.engine.specs.declared.answers.RunAnswer.TheVariants.{Refused}
+use Rattle.engine.specs.Answers.{Refused}
 use Rattle.robot.specs.Library.{run_bytes}
 use Rattle.agreement.specs.LibraryAgrees.{stored, Bytes, IsScheme, IsMatrix}
 use Rattle.agreement.specs.Replies.{ToEach}

@@ -11,7 +11,7 @@ use Rattle.model.specs.declared.Things.{Things}
 use Rattle.records.specs.Front.{record_at}
 use Rattle.records.specs.Writing.{write_bytes, write_record}
 use Rattle.records.specs.Told.{of_record, of_reading, of_writing}
-use Rattle.command_bytes.specs.Answers.{read_head, read_command, of_head_at}
+use Rattle.command_bytes.specs.Answers.{read_head, read_command, of_head_at, of_command_at}
 use Rattle.scheme_bytes.specs.Answers.{read_scheme}
 use Rattle.scheme_bytes.specs.Write.{write_scheme}
 use Rattle.matrix_records.specs.Content.{CellRecord}
@@ -84,7 +84,7 @@ pub record Numbers : Type 0 where
   -- ---- readings
   pub a_record : (bytes : List ℕ) (at kinds : ℕ) → Gives of_a_record (of_record (record_at bytes at kinds)).number
   pub a_head : (bytes : List ℕ) (at : ℕ) → Gives of_a_head (of_head_at (read_head bytes at)).number
-  pub a_command : (bytes : List ℕ) (at : ℕ) (h : Head) → Gives (27 ∷ of_a_command) (of_reading (read_command bytes at h).answer).number
+  pub a_command : (bytes : List ℕ) (at : ℕ) (h : Head) → Gives (27 ∷ of_a_command) (of_command_at (read_command bytes at h)).number
   pub a_scheme : (bytes : List ℕ) (held : Scheme) → Gives of_a_scheme (of_reading (read_scheme bytes held).answer).number
   pub any_record : (bytes : List ℕ) (at : ℕ) → Gives (1 ∷ []) (of_record (any_record_at bytes at)).number
   pub a_matrix_head : (bytes : List ℕ) (at kinds : ℕ) (h : Head) → Gives (27 ∷ of_a_head) (of_head (matrix_records.read_head bytes at kinds h)).number

@@ -7,7 +7,7 @@ use Rattle.model.specs.Seats.{Matrix, stands_for}
 use Rattle.model.specs.Accepted.{accepted_scheme, accepted_matrix}
 use Rattle.model.specs.declared.Scheme.{Scheme}
 use Rattle.engine.specs.Step.{request_on}
-use Rattle.engine.specs.declared.answers.Stepped.{Stepped}
+use Rattle.engine.specs.Answers.{Stepped}
 use Rattle.scheme_bytes.specs.Write.{write_scheme}
 use Rattle.matrix_bytes.specs.Write.{write_matrix}
 use Rattle.records.specs.Outcome.Writing.{Writing}

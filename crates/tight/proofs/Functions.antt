@@ -1,7 +1,14 @@
 -- That every public function of every library crate has a tight contract: of each, how its ending is read off what the equation `p` determines. The result
 -- comes first, then a place for each parameter: what was lent, or `tt`; `z` fills in behind the last that was lent. Assumes nothing.
-use Rattle.tight.specs.Functions.{Rights, Accepted, Things, Records, AcceptedMatrix, CommandBytes, SchemeBytes, SchemeWrite, MatrixRecords, MatrixBytes, MatrixWrite, RequestBytes, RequestList, Plan, Engine, Hold, Moving, Totals, Convert, Lines, Printout, Robot}
+use Rattle.tight.specs.Functions.{Faults, Rights, Accepted, Things, Records, AcceptedMatrix, CommandBytes, SchemeBytes, SchemeWrite, MatrixRecords, MatrixBytes, MatrixWrite, RequestBytes, RequestList, Plan, Engine, Hold, Moving, Totals, Convert, Lines, Printout, Robot}
 use Rattle.tight.proofs.General.{equation}
+
+pub faults : (M : Type 1) → Faults M
+faults M = record {
+  Fault-number = equation (λ κs a z w p i. (p i, z.1));
+  Fault-from-u8 = equation (λ κs a z w p i. (p i, z.1));
+  u8-from-Fault = equation (λ κs a z w p i. (p i, z.1));
+}
 
 pub rights : (M : Type 1) → Rights M
 rights M = record {
@@ -41,7 +48,6 @@ accepted M = record {
   command_fault = equation (λ κs a z w p i. (p i, z.1));
   head_accepted = equation (λ κs a z w p i. (p i, z.1));
   scheme_accepted = equation (λ κs a z w p i. (p i, z.1));
-  Checked-number = equation (λ κs a z w p i. (p i, z.1));
   creatable = equation (λ κs a z w p i. (p i, z.1));
   destroyable = equation (λ κs a z w p i. (p i, z.1));
 }
@@ -71,14 +77,6 @@ records M = record {
   put_front = equation (λ κs a z w p i. (tt, (p i, z.1.1)));
   write_bytes = equation (λ κs a z w p i. ((p i).0, ((p i).1, z.1.1)));
   write_record = equation (λ κs a z w p i. ((p i).0, ((p i).1, z.1.1)));
-  Field-number = equation (λ κs a z w p i. (p i, z.1));
-  Field2-number = equation (λ κs a z w p i. (p i, z.1));
-  Field8-number = equation (λ κs a z w p i. (p i, z.1));
-  RecordAnswer-number = equation (λ κs a z w p i. (p i, z.1));
-  RecordAnswer-at = equation (λ κs a z w p i. (p i, z.1));
-  Reading-number = equation (λ κs a z w p i. (p i, z.1));
-  Reading-at = equation (λ κs a z w p i. (p i, z.1));
-  Writing-number = equation (λ κs a z w p i. (p i, z.1));
 }
 
 pub accepted_matrix : (M : Type 1) → AcceptedMatrix M
@@ -89,8 +87,6 @@ accepted_matrix M = record {
 
 pub command_bytes : (M : Type 1) → CommandBytes M
 command_bytes M = record {
-  HeadAt-number = equation (λ κs a z w p i. (p i, z.1));
-  HeadAt-at = equation (λ κs a z w p i. (p i, z.1));
   read_command = equation (λ κs a z w p i. (p i, z.1));
   read_head = equation (λ κs a z w p i. (p i, z.1));
   no_command = equation (λ κs a z w p i. (p i, z.1));
@@ -99,7 +95,7 @@ command_bytes M = record {
 pub scheme_bytes : (M : Type 1) → SchemeBytes M
 scheme_bytes M = record {
   no_scheme = equation (λ κs a z w p i. (p i, z.1));
-  read_scheme = equation (λ κs a z w p i. (p i, z.1));
+  read_scheme = equation (λ κs a z w p i. ((p i).0, (tt, ((p i).1, z.1.1.1))));
 }
 
 pub scheme_write : (M : Type 1) → SchemeWrite M
@@ -109,12 +105,6 @@ scheme_write M = record {
 
 pub matrix_records : (M : Type 1) → MatrixRecords M
 matrix_records M = record {
-  HeadAt-number = equation (λ κs a z w p i. (p i, z.1));
-  HeadAt-at = equation (λ κs a z w p i. (p i, z.1));
-  ThingAt-number = equation (λ κs a z w p i. (p i, z.1));
-  ThingAt-at = equation (λ κs a z w p i. (p i, z.1));
-  CellAt-number = equation (λ κs a z w p i. (p i, z.1));
-  CellAt-at = equation (λ κs a z w p i. (p i, z.1));
   any_record_at = equation (λ κs a z w p i. (p i, z.1));
   read_head = equation (λ κs a z w p i. (p i, z.1));
   read_thing = equation (λ κs a z w p i. (p i, z.1));
@@ -123,9 +113,9 @@ matrix_records M = record {
 
 pub matrix_bytes : (M : Type 1) → MatrixBytes M
 matrix_bytes M = record {
-  read_matrix = equation (λ κs a z w p i. ((p i).0, (tt, (tt, (tt, ((p i).1, z.1.1.1.1.1))))));
-  read_matrix_by_head = equation (λ κs a z w p i. ((p i).0, (tt, (tt, (tt, ((p i).1, z.1.1.1.1.1))))));
-  read_rest = equation (λ κs a z w p i. ((p i).0, (tt, (tt, (tt, (tt, (tt, (tt, ((p i).1, z.1.1.1.1.1.1.1.1)))))))));
+  read_matrix = equation (λ κs a z w p i. ((p i).0, (tt, (tt, ((p i).1, ((p i).2, z.1.1.1.1.1))))));
+  read_matrix_by_head = equation (λ κs a z w p i. ((p i).0, (tt, (tt, ((p i).1, ((p i).2, z.1.1.1.1.1))))));
+  read_rest = equation (λ κs a z w p i. ((p i).0, (tt, (tt, (tt, (tt, (tt, ((p i).1, ((p i).2, z.1.1.1.1.1.1.1.1)))))))));
 }
 
 pub matrix_write : (M : Type 1) → MatrixWrite M
@@ -155,17 +145,16 @@ plan M = record {
 
 pub engine : (M : Type 1) → Engine M
 engine M = record {
-  run_list = equation (λ κs a z w p i. ((p i).ran, (tt, (tt, ((p i).cells, (tt, ((p i).replies, z.1.1.1.1.1.1)))))));
-  run_quietly = equation (λ κs a z w p i. ((p i).0, (tt, (tt, ((p i).1, z.1.1.1.1)))));
-  request = equation (λ κs a z w p i. ((p i).0, (tt, (tt, ((p i).1, z.1.1.1.1)))));
-  RunAnswer-number = equation (λ κs a z w p i. (p i, z.1));
+  run_list = equation (λ κs a z w p i. ((p i).0, (tt, ((p i).1, ((p i).2, (tt, ((p i).3, z.1.1.1.1.1.1)))))));
+  run_quietly = equation (λ κs a z w p i. ((p i).0, (tt, ((p i).1, ((p i).2, z.1.1.1.1)))));
+  request = equation (λ κs a z w p i. ((p i).0.answer, (tt, ((p i).0.things, ((p i).1, z.1.1.1.1)))));
 }
 
 pub hold : (M : Type 1) → Hold M
 hold M = record {
-  mark_thing = equation (λ κs a z w p i. (p i, z.1));
-  release = equation (λ κs a z w p i. (p i, z.1));
-  hold = equation (λ κs a z w p i. (p i, z.1));
+  mark_thing = equation (λ κs a z w p i. ((p i).0, ((p i).1, z.1.1)));
+  release = equation (λ κs a z w p i. ((p i).0, (tt, ((p i).1, z.1.1.1))));
+  hold = equation (λ κs a z w p i. ((p i).0, (tt, ((p i).1, z.1.1.1))));
 }
 
 pub moving : (M : Type 1) → Moving M

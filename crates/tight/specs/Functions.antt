@@ -1,6 +1,7 @@
 -- Every public function of every library crate, by its crate, with the statement that its contract is tight. A new function is one line here and one in
 -- proofs/Functions.antt, a new crate also a `use` line, a record, and its name in `tight` of crates.txt; .ci/statements prints the lines that are missing.
 use Rattle.tight.specs.Tight.{Tight, TightAs}
+use Rattle.faults.specs.contracts as faults
 use Rattle.rights.specs.contracts as rights
 use Rattle.accepted.specs.contracts as accepted
 use Rattle.things.specs.contracts as things
@@ -23,6 +24,11 @@ use Rattle.convert.specs.contracts as convert
 use Rattle.lines.specs.contracts as lines
 use Rattle.printout.specs.contracts as printout
 use Rattle.robot.specs.contracts as robot
+
+pub record Faults (M : Type 1) : Type 2 where
+  pub Fault-number : Tight M faults.Fault.number.ended (λ 𝓤. faults.Fault.number.clauses)
+  pub Fault-from-u8 : Tight M faults.FaultFromU8.from.ended (λ 𝓤. faults.FaultFromU8.from.clauses)
+  pub u8-from-Fault : Tight M faults.U8FromFault.from.ended (λ 𝓤. faults.U8FromFault.from.clauses)
 
 pub record Rights (M : Type 1) : Type 2 where
   pub Right-partner : Tight M rights.Right.partner.ended (λ 𝓤. rights.Right.partner.clauses)
@@ -59,7 +65,6 @@ pub record Accepted (M : Type 1) : Type 2 where
   pub command_fault : Tight M accepted.command_fault.ended (λ 𝓤. accepted.command_fault.clauses)
   pub head_accepted : Tight M accepted.head_accepted.ended (λ 𝓤. accepted.head_accepted.clauses)
   pub scheme_accepted : Tight M accepted.scheme_accepted.ended (λ 𝓤. accepted.scheme_accepted.clauses)
-  pub Checked-number : Tight M accepted.checked.Checked.number.ended (λ 𝓤. accepted.checked.Checked.number.clauses)
   pub creatable : Tight M accepted.creatable.ended (λ 𝓤. accepted.creatable.clauses)
   pub destroyable : Tight M accepted.destroyable.ended (λ 𝓤. accepted.destroyable.clauses)
 
@@ -86,22 +91,12 @@ pub record Records (M : Type 1) : Type 2 where
   pub put_front : Tight M records.put_front.ended (λ 𝓤. records.put_front.clauses)
   pub write_bytes : Tight M records.write_bytes.ended (λ 𝓤. records.write_bytes.clauses)
   pub write_record : Tight M records.write_record.ended (λ 𝓤. records.write_record.clauses)
-  pub Field-number : Tight M records.Field.number.ended (λ 𝓤. records.Field.number.clauses)
-  pub Field2-number : Tight M records.Field2.number.ended (λ 𝓤. records.Field2.number.clauses)
-  pub Field8-number : Tight M records.Field8.number.ended (λ 𝓤. records.Field8.number.clauses)
-  pub RecordAnswer-number : Tight M records.RecordAnswer.number.ended (λ 𝓤. records.RecordAnswer.number.clauses)
-  pub RecordAnswer-at : Tight M records.RecordAnswer.at.ended (λ 𝓤. records.RecordAnswer.at.clauses)
-  pub Reading-number : Tight M records.Reading.number.ended (λ 𝓤. records.Reading.number.clauses)
-  pub Reading-at : Tight M records.Reading.at.ended (λ 𝓤. records.Reading.at.clauses)
-  pub Writing-number : Tight M records.Writing.number.ended (λ 𝓤. records.Writing.number.clauses)
 
 pub record AcceptedMatrix (M : Type 1) : Type 2 where
   pub things_accepted : Tight M accepted_matrix.things_accepted.ended (λ 𝓤. accepted_matrix.things_accepted.clauses)
   pub matrix_accepted : Tight M accepted_matrix.matrix_accepted.ended (λ 𝓤. accepted_matrix.matrix_accepted.clauses)
 
 pub record CommandBytes (M : Type 1) : Type 2 where
-  pub HeadAt-number : Tight M command_bytes.answers.HeadAt.number.ended (λ 𝓤. command_bytes.answers.HeadAt.number.clauses)
-  pub HeadAt-at : Tight M command_bytes.answers.HeadAt.at.ended (λ 𝓤. command_bytes.answers.HeadAt.at.clauses)
   pub read_command : Tight M command_bytes.read_command.ended (λ 𝓤. command_bytes.read_command.clauses)
   pub read_head : Tight M command_bytes.read_head.ended (λ 𝓤. command_bytes.read_head.clauses)
   pub no_command : Tight M command_bytes.no_command.ended (λ 𝓤. command_bytes.no_command.clauses)
@@ -114,12 +109,6 @@ pub record SchemeWrite (M : Type 1) : Type 2 where
   pub write_scheme : Tight M scheme_write.write_scheme.ended (λ 𝓤. scheme_write.write_scheme.clauses)
 
 pub record MatrixRecords (M : Type 1) : Type 2 where
-  pub HeadAt-number : Tight M matrix_records.answers.HeadAt.number.ended (λ 𝓤. matrix_records.answers.HeadAt.number.clauses)
-  pub HeadAt-at : Tight M matrix_records.answers.HeadAt.at.ended (λ 𝓤. matrix_records.answers.HeadAt.at.clauses)
-  pub ThingAt-number : Tight M matrix_records.answers.ThingAt.number.ended (λ 𝓤. matrix_records.answers.ThingAt.number.clauses)
-  pub ThingAt-at : Tight M matrix_records.answers.ThingAt.at.ended (λ 𝓤. matrix_records.answers.ThingAt.at.clauses)
-  pub CellAt-number : Tight M matrix_records.answers.CellAt.number.ended (λ 𝓤. matrix_records.answers.CellAt.number.clauses)
-  pub CellAt-at : Tight M matrix_records.answers.CellAt.at.ended (λ 𝓤. matrix_records.answers.CellAt.at.clauses)
   pub any_record_at : Tight M matrix_records.any_record_at.ended (λ 𝓤. matrix_records.any_record_at.clauses)
   pub read_head : Tight M matrix_records.read_head.ended (λ 𝓤. matrix_records.read_head.clauses)
   pub read_thing : Tight M matrix_records.read_thing.ended (λ 𝓤. matrix_records.read_thing.clauses)
@@ -151,7 +140,6 @@ pub record Engine (M : Type 1) : Type 2 where
   pub run_list : Tight M engine.run_list.ended (λ 𝓤. engine.run_list.clauses)
   pub run_quietly : Tight M engine.run_quietly.ended (λ 𝓤. engine.run_quietly.clauses)
   pub request : Tight M engine.request.ended (λ 𝓤. engine.request.clauses)
-  pub RunAnswer-number : Tight M engine.answers.RunAnswer.number.ended (λ 𝓤. engine.answers.RunAnswer.number.clauses)
 
 pub record Hold (M : Type 1) : Type 2 where
   pub mark_thing : Tight M hold.mark_thing.ended (λ 𝓤. hold.mark_thing.clauses)
