@@ -2,7 +2,7 @@
 use crate::failure::{Failure, Refusal};
 use crate::input::Input;
 use crate::said::say;
-use model::{Scheme, Things};
+use model::{Head, Scheme, Things};
 use totals::Totals;
 
 fn check_scheme<'a>(rt: &HostRuntime, scheme: &Input<'a>) -> Result<Scheme, Failure<'a>> {
