@@ -1,5 +1,5 @@
 // The converted scheme's and the converted matrix's bytes, from the start of a lent buffer on.
-ghost use Rattle.std.specs.Prelude.{◌≡◌, List, ℕ, Result, length};
+ghost use Rattle.std.specs.Prelude.{◌≡◌, List, ℕ, Result};
 ghost use Rattle.faults.specs.declared.Fault.{Fault};
 ghost use Rattle.model.specs.Seats.{matrix_of};
 ghost use Rattle.records.specs.Results.{written};

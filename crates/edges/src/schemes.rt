@@ -2,7 +2,6 @@
 use crate::case::Case;
 use crate::print::Line;
 use crate::values;
-use command_bytes::no_command;
 use model::Scheme;
 
 fn convert(line: &mut Line, s: &mut Scheme) {
@@ -17,7 +16,7 @@ fn convert(line: &mut Line, s: &mut Scheme) {
 fn command(line: &mut Line, case: Case, s: &mut Scheme) {
     let read = command_bytes::read_command(case.bytes.behind(1).0, case.at, s.head);
     line.tell(read.map(|(_, next)| next));
-    let command = read.map_or(no_command(), |(command, _)| command);
+    let command = read.map_or(command_bytes::no_command(), |(command, _)| command);
     values::put_command(case.bytes, command, s);
 }
 
@@ -30,7 +29,7 @@ pub(crate) fn task(line: &mut Line, case: Case, s: &mut Scheme) {
         3 => values::set_command(b, s),
         4 => convert(line, s),
         5 => command(line, case, s),
-        6 => values::put_command(b, no_command(), s),
+        6 => values::put_command(b, command_bytes::no_command(), s),
         _ => {}
     }
 }

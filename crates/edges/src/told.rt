@@ -23,7 +23,7 @@ impl Why for Fault {
 
 impl Told for Refused {
     fn tell(self, line: &mut Line) {
-        (self.fault, self.at).tell(line);
+        (u8::from(self.fault), self.at).tell(line);
     }
 }
 

@@ -4,8 +4,6 @@
 ghost use Rattle.std.specs.Prelude.{◌≡◌};
 ghost use Rattle.faults.specs.Numbers.{number_of, fault_of};
 
-use std::fmt;
-
 #[derive(Clone, Copy, Debug, PartialEq, Eq, Hash, Drop)]
 pub enum Fault {
     // ---- bytes
@@ -111,12 +109,5 @@ impl From<Fault> for u8 {
 
     fn from(fault: Fault) -> u8 {
         fault.number()
-    }
-}
-
-// As the tools tell it: the outline's number.
-impl fmt::Display for Fault {
-    fn fmt<W: fmt::Write>(&self, f: &mut fmt::Formatter<W>) -> fmt::Result {
-        write!(f, "{}", self.number())
     }
 }

@@ -47,7 +47,7 @@ pub fn write_two(rt: &HostRuntime, first: &Output<'_>, second: &Output<'_>) -> R
     second.check_place(rt)?;
     first.remove_new(rt);
     second.remove_new(rt);
-    let was = read(rt, first.path);
+    let was = read(rt, first.path, LONGEST);
     write_both_new(rt, first, second)?;
     // The first came to be when the second was written under its name with `.new`: then they are one file, however it was spelt.
     if matches!(was, Ok(None)) && File::open(rt, first.path).is_ok() {

@@ -62,6 +62,7 @@ fn read_cells(
     let mut over: u16 = 0;
     let mut by: u16 = 0;
     let mut p = at;
+    // A loop, since a reading gives the next one's position.
     while p < s.len() {
         let (found, next) = matrix_records::read_cell(s, p, Kinds(32), h.head, th, n, over, by)?;
         cells[found.place] = found.rights;

@@ -9,7 +9,7 @@ pub struct FoundHead {
     pub highest: u16,
 }
 
-#[derive(Clone, Copy)]
+#[derive(Clone, Copy, Debug, PartialEq, Eq)]
 pub struct FoundThing {
     pub kind: u16,
     pub id: u16,

@@ -29,7 +29,8 @@ pub struct Operation {
     pub column: Parameter,
 }
 
-// Of each list the first `count` places are used; the others are kept at zero.
+// Of each list the first `count` places are used; the others are kept at zero. A count beside an array, here and in a scheme: the robots have no heap, and
+// a value with any count, and with anything behind it, may be handed in and is refused with 27 (`scheme_accepted`), which no slice could hold.
 #[derive(Clone, Copy)]
 pub struct Parameters {
     pub count: u8,
@@ -71,7 +72,8 @@ pub struct Scheme {
 }
 
 // The things of a matrix by seat, where a seat whose id is 0 is free: their ids, types, and marks, which say who is on hold; and the highest id that
-// there ever was. The cells are kept apart, in a list of 48 times 48 sets.
+// there ever was. The cells are kept apart, in a list of 48 times 48 sets. Three arrays by seat: an id is searched among ids alone, and the theorems of
+// seats speak of that list.
 #[derive(Clone, Copy)]
 pub struct Things {
     pub ids: [u16; Things::LIMIT],
@@ -89,7 +91,8 @@ pub struct Refusal {
 }
 
 // What is told of it: the outline's number, 0 for success; with 14 the place, from 0, of the test that doesn't hold, with every other number
-// `NO_TEST`; and how many tests were evaluated and operations carried out or refused.
+// `NO_TEST`; and how many tests were evaluated and operations carried out or refused. Three numbers, since they are the three bytes that C finds in the
+// answers' buffer.
 #[derive(Clone, Copy, Debug, PartialEq, Eq)]
 pub struct Reply {
     pub number: u8,

@@ -9,8 +9,8 @@ use std::io::Print;
 const ROOM: usize = 262144;
 
 // Of a file what the outline takes of it; a missing file is empty input, and so is one that can't be read, which was told.
-fn input(rt: &HostRuntime, path: &str) -> Vec<u8> {
-    match files::read_file(rt, path) {
+fn input(rt: &HostRuntime, name: &[u8]) -> Vec<u8> {
+    match files::read_file(rt, name, files::LONGEST) {
         Ok(Some(mut bytes)) => {
             bytes.truncate(files::LONGEST);
             bytes
@@ -20,9 +20,9 @@ fn input(rt: &HostRuntime, path: &str) -> Vec<u8> {
 }
 
 fn main(rt: HostRuntime) {
-    let scheme = input(&rt, "scheme.bin");
-    let matrix = input(&rt, "matrix.bin");
-    let requests = input(&rt, "requests.bin");
+    let scheme = input(&rt, b"scheme.bin");
+    let matrix = input(&rt, b"matrix.bin");
+    let requests = input(&rt, b"requests.bin");
     let mut text = [0; ROOM];
     let n = printout::printout(&scheme, &matrix, &requests, &mut text);
     // Where the text can't be written, as where nobody reads it any more, there is nobody to tell: the status is 0 all the same.

@@ -1,7 +1,7 @@
 // Records: the front of one, its body lent back, its fields, and the writer's side. Every function takes any bytes and any position.
 #![tactic(auto, unfolding(faults::specs::Numbers::fault_of))]
 
-ghost use Rattle.std.specs.Prelude.{◌≡◌, List, ℕ, Result, ◌+◌, ◌*◌, ◌<◌, ◌≤◌, length, drop, set};
+ghost use Rattle.std.specs.Prelude.{◌≡◌, List, ℕ, Result, ◌+◌, ◌<◌, ◌≤◌, length, drop, set};
 ghost use Rattle.std.proofs.lemmas.List.Edits.{sets};
 ghost use Rattle.records.specs.Bytes.{little_endian, record_bytes, number2, part};
 ghost use Rattle.records.specs.Reading.{byte, number, field};
@@ -13,7 +13,8 @@ ghost use Rattle.records.specs.Inner.Parts.{bytes_in};
 
 use faults::Fault;
 
-// The kinds that may stand at a place: bit k for kind k.
+// The kinds that may stand at a place: bit k for kind k. A kind is a number: all 65,536 can stand in a record, are told, and may be asked for and written
+// (`record_at`, `put_front`, `write_record`).
 #[derive(Clone, Copy)]
 pub struct Kinds(pub u16);
 
@@ -123,7 +124,7 @@ pub fn byte_at(b: &[u8], i: usize) -> Result<u8, Fault>
     Ok(b[i])
 }
 
-// A byte from low on and below limit; another is the fault of this number.
+// A byte from low on and below limit; another is the fault of this number, which may be any: the clause says so of every number.
 pub fn field_at(b: &[u8], i: usize, low: u8, limit: u8, number: u8) -> Result<u8, Fault>
     ensures { result ≡ value_of (field low limit number (drop i b.now)) }
 {

@@ -10,6 +10,7 @@ pub fn count_requests(bytes: &[u8]) -> usize
 {
     let mut n: usize = 0;
     let mut p: usize = 0;
+    // A loop, since a reading gives the next one's position.
     while let Ok(Some(next)) = request_bytes::skip_request(bytes, p) {
         n += 1;
         p = next;

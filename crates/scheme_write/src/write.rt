@@ -3,7 +3,7 @@ ghost use Rattle.std.specs.Prelude.{◌≡◌, List, [], ◌∷◌, ℕ, Result,
 ghost use Rattle.std.proofs.lemmas.List.Edits.{sets};
 ghost use Rattle.rights.specs.Numberings.{right_byte, parameter_byte};
 ghost use Rattle.model.specs.Accepted.{accepted_scheme};
-ghost use Rattle.model.specs.Scheme.{commands_of, parameters_of, tests_of, operations_of};
+ghost use Rattle.model.specs.Scheme.{commands_of};
 ghost use Rattle.faults.specs.declared.Fault.{Fault};
 ghost use Rattle.records.specs.Bytes.{record_bytes, each_bytes};
 ghost use Rattle.records.specs.Writing.{placed};

@@ -20,7 +20,9 @@ impl fmt::Display for Refusal<'_> {
         write!(
             f,
             "{}: refused with number {} at position {}",
-            self.name, self.fault, self.position
+            self.name,
+            self.fault.number(),
+            self.position
         )
     }
 }

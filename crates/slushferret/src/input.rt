@@ -15,7 +15,7 @@ impl<'a> Input<'a> {
     // A missing file counts as empty, which is told. One that can't be read or is too long ends the tool, since it never works on a part.
     pub(crate) fn load(rt: &HostRuntime, word: &'a [u8]) -> Result<Input<'a>, Told> {
         let name = text_of(rt, word)?;
-        let Some(bytes) = read_file(rt, name)? else {
+        let Some(bytes) = read_file(rt, word, LONGEST)? else {
             tell(rt, word, "there is no such file, so it counts as empty");
             return Ok(Input {
                 name,

@@ -386,7 +386,6 @@ fn the_highest_id_is_encoded() {
 /// Which numbers each public function can give, by the outline's table; a yes or no is 1 or 0, and what can't refuse gives 0. A method that tells an
 /// answer's number gives all those of its answers, one that tells a position gives 0.
 const FUNCTIONS: &[(&str, &[u8])] = &[
-    ("accepted::Checked::number", &[0, 4, 5, 6]),
     ("accepted::command_accepted", &[0, 1]),
     ("accepted::command_fault", &[0, 4, 5, 6]),
     ("accepted::creatable", &[0, 1]),
@@ -399,8 +398,6 @@ const FUNCTIONS: &[(&str, &[u8])] = &[
     ("accepted::type_at", &[0]),
     ("accepted_matrix::matrix_accepted", &[0, 1]),
     ("accepted_matrix::things_accepted", &[0, 1]),
-    ("command_bytes::HeadAt::at", &[0]),
-    ("command_bytes::HeadAt::number", &[0, 1, 2, 3, 4, 6]),
     ("command_bytes::no_command", &[0]),
     ("command_bytes::read_command", &[0, 1, 2, 3, 4, 5, 6, 27]),
     ("command_bytes::read_head", &[0, 1, 2, 3, 4, 6]),
@@ -408,13 +405,18 @@ const FUNCTIONS: &[(&str, &[u8])] = &[
     ("convert::convert_scheme", &[0, 9, 20, 21, 22, 27]),
     ("convert::converted_cells", &[0, 20, 21, 22, 27]),
     ("convert::converted_scheme", &[0, 20, 21, 22, 27]),
-    ("engine::RunAnswer::number", &[0, 1, 2, 3, 4, 9, 27]),
     (
         "engine::request",
         &[0, 10, 11, 12, 13, 14, 15, 16, 17, 18, 27],
     ),
     ("engine::run_list", &[0, 1, 2, 3, 4, 9, 27]),
     ("engine::run_quietly", &[0, 1, 2, 3, 4, 27]),
+    ("faults::Fault::from", &[0]),
+    (
+        "faults::Fault::number",
+        &[0, 1, 2, 3, 4, 5, 6, 9, 20, 21, 22, 27],
+    ),
+    ("faults::u8::from", &[0, 1, 2, 3, 4, 5, 6, 7, 8, 27]),
     ("hold::hold", &[0, 12, 27]),
     ("hold::mark_thing", &[0, 12]),
     ("hold::release", &[0, 12, 27]),
@@ -429,15 +431,6 @@ const FUNCTIONS: &[(&str, &[u8])] = &[
         &[0, 1, 2, 3, 4, 5, 6, 7, 27],
     ),
     ("matrix_bytes::read_rest", &[0, 1, 2, 3, 5, 6, 7, 27]),
-    ("matrix_records::CellAt::at", &[0]),
-    ("matrix_records::CellAt::number", &[0, 1, 2, 3, 5, 6, 7, 27]),
-    ("matrix_records::HeadAt::at", &[0]),
-    ("matrix_records::HeadAt::number", &[0, 1, 2, 3, 4, 6, 27]),
-    ("matrix_records::ThingAt::at", &[0]),
-    (
-        "matrix_records::ThingAt::number",
-        &[0, 1, 2, 3, 5, 6, 7, 27],
-    ),
     ("matrix_records::any_record_at", &[0, 1]),
     ("matrix_records::read_cell", &[0, 1, 2, 3, 5, 6, 7, 27]),
     ("matrix_records::read_head", &[0, 1, 2, 3, 4, 6, 27]),
@@ -449,15 +442,7 @@ const FUNCTIONS: &[(&str, &[u8])] = &[
     ("plan::locate", &[0, 12, 13, 18]),
     ("plan::plan_all", &[0, 15, 16, 17]),
     ("plan::seat_at", &[0]),
-    ("records::Field2::number", &[0, 3]),
-    ("records::Field8::number", &[0, 3]),
-    ("records::Field::number", &[0, 3, 5]),
     ("records::Kinds::has", &[0, 1]),
-    ("records::Reading::at", &[0]),
-    ("records::Reading::number", &[0, 1, 2, 3, 4, 5, 6, 7, 8, 27]),
-    ("records::RecordAnswer::at", &[0]),
-    ("records::RecordAnswer::number", &[0, 1, 2]),
-    ("records::Writing::number", &[0, 4, 9, 20, 21, 22, 27]),
     ("records::body", &[0]),
     ("records::byte_at", &[0, 3]),
     ("records::field2_at", &[0, 3]),
@@ -475,13 +460,11 @@ const FUNCTIONS: &[(&str, &[u8])] = &[
     ("request_bytes::skip_request", &[0, 1, 2, 3, 4]),
     ("request_bytes::write_request", &[0, 4, 9]),
     ("request_list::count_requests", &[0]),
-    ("rights::Parameter::below", &[0, 1]),
+    ("rights::Numbered::below", &[0, 1]),
+    ("rights::Numbered::is", &[0, 1]),
+    ("rights::Numbered::is_zero", &[0, 1]),
     ("rights::Parameter::byte", &[0]),
-    ("rights::Parameter::is", &[0, 1]),
-    ("rights::Parameter::is_zero", &[0, 1]),
-    ("rights::Right::below", &[0, 1]),
     ("rights::Right::byte", &[0]),
-    ("rights::Right::is_zero", &[0, 1]),
     ("rights::Right::partner", &[0]),
     ("rights::Right::single", &[0]),
     ("rights::RightSet::all", &[0]),
@@ -492,10 +475,7 @@ const FUNCTIONS: &[(&str, &[u8])] = &[
     ("rights::RightSet::has", &[0, 1]),
     ("rights::RightSet::is_empty", &[0, 1]),
     ("rights::RightSet::within", &[0, 1]),
-    ("rights::ThingType::below", &[0, 1]),
     ("rights::ThingType::byte", &[0]),
-    ("rights::ThingType::is", &[0, 1]),
-    ("rights::ThingType::is_zero", &[0, 1]),
     ("rights::TypeSet::has", &[0, 1]),
     ("rights::TypeSet::within", &[0, 1]),
     ("scheme_bytes::no_scheme", &[0]),
@@ -559,6 +539,18 @@ fn public_functions() -> BTreeSet<String> {
         if parts.len() == 4 {
             parts.remove(1);
         }
+        // What an `impl` of a trait gives has both names before it: a conversion is its type's. Of the numberings only `byte` is each one's own, the
+        // others are the trait's, written once.
+        let [_, given, method] = &mut parts[..] else {
+            return below.contains(parts[0]).then(|| parts.join("::"));
+        };
+        *given = match *given {
+            "FaultFromU8" => "Fault",
+            "U8FromFault" => "u8",
+            name if *method == "byte" => name.trim_end_matches("Numbered"),
+            name if name.ends_with("Numbered") => "Numbered",
+            name => name,
+        };
         below.contains(parts[0]).then(|| parts.join("::"))
     };
     lines.lines().filter_map(contract).collect()

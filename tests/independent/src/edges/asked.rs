@@ -2,7 +2,7 @@
 //! them, sets and numbers.
 
 use super::at_position;
-use super::said::Said;
+use super::said::{Said, NUMBER};
 use super::seats::Seats;
 use super::tasks::Task;
 use super::values::{names, CommandValue, SchemeValue};
@@ -18,7 +18,7 @@ pub fn say(task: &Task, scheme: &SchemeValue, seats: &Seats, lent: usize) -> Sai
             let fault = scheme.command_fault(command);
             Said::default()
                 .gave("accepted::command_fault", fault)
-                .through("accepted::Checked::number", fault)
+                .through(NUMBER, fault)
                 .flag(
                     "accepted::command_accepted",
                     scheme.command_accepted(command),
@@ -145,15 +145,15 @@ fn rights(set: u64, right: u8, n: u8) -> Said {
 /// As a right, as a type, as a parameter.
 fn numbers(one: u8, other: u8) -> Said {
     Said::default()
-        .flag("rights::Right::below", one < other)
-        .flag("rights::Right::is_zero", one == 0)
+        .flag("rights::Numbered::below", one < other)
+        .flag("rights::Numbered::is_zero", one == 0)
         .value("rights::Right::byte", one)
-        .flag("rights::ThingType::below", one < other)
-        .flag("rights::ThingType::is", one == other)
-        .flag("rights::ThingType::is_zero", one == 0)
+        .flag("rights::Numbered::below", one < other)
+        .flag("rights::Numbered::is", one == other)
+        .flag("rights::Numbered::is_zero", one == 0)
         .value("rights::ThingType::byte", one)
-        .flag("rights::Parameter::below", one < other)
-        .flag("rights::Parameter::is", one == other)
-        .flag("rights::Parameter::is_zero", one == 0)
+        .flag("rights::Numbered::below", one < other)
+        .flag("rights::Numbered::is", one == other)
+        .flag("rights::Numbered::is_zero", one == 0)
         .value("rights::Parameter::byte", one)
 }

@@ -2,7 +2,7 @@
 
 use std::ops::Range;
 
-use super::said::{Methods, Said};
+use super::said::{Said, NUMBER};
 use super::seats::{Seats, SEATS};
 use super::sums;
 use super::tasks::{At, Context, Read};
@@ -58,8 +58,6 @@ fn whole_request(list: &[u8], at: usize) -> Said {
 
 // ---- records, bodies and fields
 
-const RECORD: Methods = ["records::RecordAnswer::number", "records::RecordAnswer::at"];
-
 /// A set of kinds has none from 16 on.
 pub fn has_kind(kinds: u16, kind: u16) -> bool {
     kind < 16 && kinds >> kind & 1 == 1
@@ -77,11 +75,10 @@ fn record(bytes: &[u8], at: usize, kinds: u16) -> Said {
     let of_kinds = || Record::read_of(bytes, at, |kind| has_kind(kinds, kind));
     let next = of_kinds().map(|record| record.next).map_err(Refusal::from);
     Said::default()
-        .answer("records::record_at", RECORD, answer(of_kinds()))
+        .answer("records::record_at", answer(of_kinds()))
         .reading("records::next_record", next)
         .answer(
             "matrix_records::any_record_at",
-            RECORD,
             answer(Record::read_of(bytes, at, |_| true)),
         )
 }
@@ -98,9 +95,9 @@ fn body(bytes: &[u8], start: u64, length: u64) -> Said {
 /// Each field's number and value, 0 where there is a fault; 3 where the body ends before or inside it. With a limit, a value only where there is none.
 fn fields(bytes: &[u8], at: usize, range: Range<u8>, number: u8) -> Said {
     let left = bytes.get(at..).unwrap_or(&[]);
-    let field = |said: Said, [function, number_of]: Methods, value: Option<u64>| {
+    let field = |said: Said, function, value: Option<u64>| {
         let number = if value.is_some() { 0 } else { 3 };
-        let said = said.through(function, number).gave(number_of, number);
+        let said = said.through(function, number).gave(NUMBER, number);
         said.word(value.unwrap_or(0))
     };
     let one = left.first().copied();
@@ -111,33 +108,18 @@ fn fields(bytes: &[u8], at: usize, range: Range<u8>, number: u8) -> Said {
         Some(value) if range.contains(&value) => Ok(value),
         Some(_) => Err(number),
     };
-    let said = field(
-        Said::default(),
-        ["records::byte_at", "records::Field::number"],
-        one.map(u64::from),
-    );
+    let said = field(Said::default(), "records::byte_at", one.map(u64::from));
     let found = within.err().unwrap_or(0);
-    let said = said
-        .through("records::field_at", found)
-        .gave("records::Field::number", found);
+    let said = said.through("records::field_at", found).gave(NUMBER, found);
     let said = within.into_iter().fold(said, Said::word);
-    let said = field(
-        said,
-        ["records::field2_at", "records::Field2::number"],
-        two.map(u64::from),
-    );
-    field(
-        said,
-        ["records::field8_at", "records::Field8::number"],
-        eight,
-    )
+    let said = field(said, "records::field2_at", two.map(u64::from));
+    field(said, "records::field8_at", eight)
 }
 
 // ---- the records of a scheme and of a matrix
 
 /// n, m, the subject types and how many commands; then the next position.
 fn scheme_head(bytes: &[u8], at: usize) -> Said {
-    let methods = ["command_bytes::HeadAt::number", "command_bytes::HeadAt::at"];
     let found = find_head(bytes, at).map(|(head, commands, next)| {
         let fields = [
             head.rights.into(),
@@ -148,11 +130,7 @@ fn scheme_head(bytes: &[u8], at: usize) -> Said {
         let fields = fields.map(u64::from);
         [&fields[..], &[next as u64]].concat()
     });
-    Said::default().answer(
-        "command_bytes::read_head",
-        methods,
-        found.map_err(Refusal::from),
-    )
+    Said::default().answer("command_bytes::read_head", found.map_err(Refusal::from))
 }
 
 /// The record's kind, what `read` makes of it against the head, and the next position.
@@ -171,36 +149,24 @@ fn told(
 
 /// How many things it states, and the highest id.
 fn matrix_head(bytes: &[u8], at: usize, context: &Context, head: Option<&Scheme>) -> Said {
-    let methods = [
-        "matrix_records::HeadAt::number",
-        "matrix_records::HeadAt::at",
-    ];
     let found = told(bytes, at, context, head, |record, scheme| {
         let (things, highest) = read_head(record, scheme)?;
         Ok(vec![things.into(), highest.into()])
     });
-    Said::default().answer("matrix_records::read_head", methods, found)
+    Said::default().answer("matrix_records::read_head", found)
 }
 
 /// Its id and type.
 fn thing(bytes: &[u8], at: usize, context: &Context, head: Option<&Scheme>) -> Said {
-    let methods = [
-        "matrix_records::ThingAt::number",
-        "matrix_records::ThingAt::at",
-    ];
     let found = told(bytes, at, context, head, |record, scheme| {
         let (id, kind) = read_thing(record, scheme, context.last.0, context.highest)?;
         Ok(vec![id.into(), kind.into()])
     });
-    Said::default().answer("matrix_records::read_thing", methods, found)
+    Said::default().answer("matrix_records::read_thing", found)
 }
 
 /// Its row and column, where it is kept, and its rights.
 fn cell(bytes: &[u8], at: usize, context: &Context, head: Option<&Scheme>, seats: &Seats) -> Said {
-    let methods = [
-        "matrix_records::CellAt::number",
-        "matrix_records::CellAt::at",
-    ];
     let Context { last, things, .. } = *context;
     let found = told(bytes, at, context, head, |record, scheme| {
         let type_of = |id| seats.thing(things, id).map(|thing| thing.kind);
@@ -208,5 +174,5 @@ fn cell(bytes: &[u8], at: usize, context: &Context, head: Option<&Scheme>, seats
         let place = seats.seat_in(things, row) * SEATS + seats.seat_in(things, column);
         Ok(vec![row.into(), column.into(), place as u64, rights])
     });
-    Said::default().answer("matrix_records::read_cell", methods, found)
+    Said::default().answer("matrix_records::read_cell", found)
 }

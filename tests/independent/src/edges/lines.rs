@@ -3,7 +3,7 @@
 
 use super::asked;
 use super::planned::{located, planned, Spots};
-use super::said::{Given, Said};
+use super::said::{Given, Said, NUMBER};
 use super::seats::{Seats, CELLS};
 use super::sums;
 use super::tasks::{Ask, Rest, Task};
@@ -392,7 +392,7 @@ fn ended(said: Said, function: &'static str, ran: (Vec<Answer>, Option<Refusal>)
 
 fn run_answer(said: Said, function: &'static str, number: u8) -> Said {
     let said = said.through(function, number);
-    said.gave("engine::RunAnswer::number", number)
+    said.gave(NUMBER, number)
 }
 
 /// The number and the operation's place; then all spots, zeros where there is a fault, and that of a parameter, 0 for one that no command has.

@@ -10,10 +10,10 @@ use crate::request::write_request;
 /// A public function by its path, and the number it gave: 0 for success, and for a yes or no 1 or 0.
 pub type Given = (&'static str, u8);
 
-/// The methods that tell an answer's number, and the position that comes with a refusal, 0 with success.
-pub type Methods = [&'static str; 2];
-
-pub const READING: Methods = ["records::Reading::number", "records::Reading::at"];
+/// What tells the number of a refusal without a position, and of one with a position; with success a fault of number 0 is told.
+pub const NUMBER: &str = "faults::Fault::number";
+const NUMBER_WITH_POSITION: &str = "faults::u8::from";
+const NO_FAULT: &str = "faults::Fault::from";
 
 #[derive(Clone, Debug, Default)]
 pub struct Said {
@@ -47,25 +47,20 @@ impl Said {
         self.gave(function, u8::from(holds))
     }
 
-    /// The number and the position, by the answer's methods; then what was read.
-    pub fn answer(
-        self,
-        function: &'static str,
-        [number_of, place_of]: Methods,
-        answer: Result<Vec<u64>, Refusal>,
-    ) -> Said {
+    /// The number and the position, 0 with success; then what was read.
+    pub fn answer(self, function: &'static str, answer: Result<Vec<u64>, Refusal>) -> Said {
         let (number, at, values) = match answer {
             Ok(values) => (0, 0, values),
             Err(Refusal { number, at }) => (number, at, Vec::new()),
         };
-        let said = self.through(function, number).gave(number_of, number);
-        let said = said.value(place_of, at);
+        let said = self.through(function, number).through(NO_FAULT, 0);
+        let said = said.gave(NUMBER_WITH_POSITION, number).word(at);
         values.into_iter().fold(said, Said::word)
     }
 
     /// An answer that has the next position.
     pub fn reading(self, function: &'static str, answer: Result<usize, Refusal>) -> Said {
-        self.answer(function, READING, answer.map(|next| vec![next as u64]))
+        self.answer(function, answer.map(|next| vec![next as u64]))
     }
 
     /// Bytes stored at a position of a lent buffer: the number, then the next position if there is one; then the buffer's sum.
@@ -84,9 +79,7 @@ impl Said {
         });
         let said = match stored {
             Ok(count) => self.written(function, at + count as u64),
-            Err(number) => self
-                .through(function, number)
-                .gave("records::Writing::number", number),
+            Err(number) => self.through(function, number).gave(NUMBER, number),
         };
         said.word(sums::bytes(&out))
     }
@@ -112,7 +105,7 @@ impl Said {
 
     fn written(self, function: &'static str, next: u64) -> Said {
         let said = self.through(function, 0);
-        said.gave("records::Writing::number", 0).word(next)
+        said.gave(NUMBER, 0).word(next)
     }
 
     pub fn store(self, store: &Store) -> Said {
