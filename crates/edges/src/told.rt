@@ -21,6 +21,7 @@ impl Why for Fault {
     }
 }
 
+// By the conversion, which nothing else here would call.
 impl Told for Refused {
     fn tell(self, line: &mut Line) {
         (u8::from(self.fault), self.at).tell(line);

@@ -20,7 +20,7 @@ fn run_all(s: &Scheme, th: &mut Things, cells: &mut [u64], bytes: &[u8], out: &m
 {
     let mut n: usize = 0;
     let mut p: usize = 0;
-    // A loop, since a reading gives the next one's position: an iterator of our own would be the same in three functions.
+    // A loop, since a reading gives the next one's position.
     loop {
         match request_bytes::read_request(bytes, p) {
             Ok(Some((q, next))) => {

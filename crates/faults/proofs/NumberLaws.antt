@@ -5,7 +5,7 @@ use mathlib.Core.Bool.{Bool, true, false, cond}
 use lib.Dec.{eqb}
 use borrow.Author.Tests.{eqb-true}
 use Rattle.faults.specs.Numbers.{number_of, fault_of}
-use Rattle.faults.specs.Promises.{Numbered}
+use Rattle.faults.specs.Promises.{NumbersKept}
 use Rattle.faults.specs.declared.Fault.{Fault}
 use Rattle.faults.specs.declared.Fault.TheVariants as fault
 
@@ -17,7 +17,7 @@ named n k f g e d = go (eqb n k) refl
     go true t = rw (eqb-true n k t) e
     go false t = d
 
-pub numbered : Numbered
+pub numbered : NumbersKept
 unfolding fault_of
 numbered n =
     named n 1 _ _ refl

@@ -1,4 +1,4 @@
--- The outline's refusal numbers: the number of each fault, and the fault of each number. A number and its fault are one thing said twice (`Numbered` of
+-- The outline's refusal numbers: the number of each fault, and the fault of each number. A number and its fault are one thing said twice (`NumbersKept` of
 -- Promises), so that definitions go on speaking of numbers, as the outline does, and functions give faults by name.
 -- Assumes nothing.
 use Rattle.std.specs.Prelude.{ℕ, cond, eqb}

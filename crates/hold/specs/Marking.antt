@@ -43,7 +43,7 @@ abbrev pub marking_result : Marking → Result Unit Fault
 marking_result Done = Ok tt
 marking_result (Refused k) = Err (fault_of k)
 
--- in Rust: the things are lent, and a refusal is a fault
+-- in the code: the things are lent, and a refusal is a fault
 abbrev pub marked_result : Marked → Result Unit Fault × Things
 marked_result m = (marking_result m.answer, m.things)
 

@@ -29,7 +29,7 @@ pub fn seat_in(ids: [u16; Things::LIMIT], n: usize, x: u16) -> usize
     ids[..most].iter().position(|id| *id == x).unwrap_or(most)
 }
 
-// The first seat with this id, or 48, which is no seat's number: the definition counts so, and what is asked at it is 0 or nobody.
+// The first seat with this id, or 48, which is no seat's number: the definition (`find`) and the theorems of seats count so.
 pub fn seat_of(ids: [u16; Things::LIMIT], x: u16) -> usize
     ensures { result ≡ find ids x }
 {

@@ -1,4 +1,5 @@
--- How many bytes a type, a test and an operation of a command take.
+-- How many bytes a type, a test and an operation of a command take. The laws stand here and not in proofs/, since the impls of `Stored` name them, and of its
+-- own crate code may name only what stands in specs/.
 -- Assumes nothing.
 use Rattle.std.specs.Prelude.{◌≤◌, length}
 use Rattle.std.proofs.Common.{arith}
