@@ -32,12 +32,19 @@ fn count_cells(cells: &[u64]) -> u32
     cells.iter().filter(|&&cell| cell != 0).count() as u32
 }
 
+// A cell has as many entries as rights.
+fn entries_of(cell: u64) -> u32
+    ensures { result ≡ count_rights cell }
+{
+    RightSet(cell).count()
+}
+
 #[tactic(auto, using(crate::proofs::Sums::is_summed))]
 fn count_entries(cells: &[u64]) -> u32
     requires { sum_by count_rights cells.now < 2 ^ 32 }
     ensures { result ≡ sum_of count_rights cells.now }
 {
-    cells.iter().map(|&cell| RightSet(cell).count()).sum()
+    cells.iter().map(|&cell| entries_of(cell)).sum()
 }
 
 // The totals of a matrix of a scheme that some reading gives.
