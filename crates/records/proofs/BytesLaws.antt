@@ -4,11 +4,12 @@ use Prim.Native.Nat.{ℕ, zero, suc, ◌+◌, ◌-◌, ◌/◌, ◌%◌, ◌^◌
 use native.Mathlib.Decide.{dec_lt}
 use Rattle.std.specs.Int.{w16, w64, to_le_bytes, bytes_low_first, byte_at}
 use native.Mathlib.Omega.{arith}
+use native.Mathlib.Numerals.{add-one}
 use native.Mathlib.Nat.{add-zero, pow-suc, div-one, div-div-eq-div-mul}
 use mathlib.Core.List.{List, [], ◌∷◌, ◌++◌, append_assoc}
 use mathlib.Core.Path.{◌≡◌, refl, sym, ap, ◌∙◌}
-use lib.ListN.{length, set, take, drop, length-append, take-append-drop}
-use lib.Seq.{sets, sets-eq, set_out, take_all, drop-drop, length-take-le, length-sets}
+use lib.ListN.{length, get_or, set, take, drop, length-append, take-append-drop, drop_of_length-le}
+use lib.Seq.{sets, sets-eq, set_out, drop-cons, take_all, drop-drop, length-take-le, length-sets}
 use Rattle.records.specs.Bytes.{little_endian, record_bytes}
 
 -- ---- a number's bytes
@@ -47,6 +48,14 @@ sets_append l i (x ∷ xs) ys = let e : i + suc (length xs) ≡ suc i + length x
 pub sets_out : (l : List ℕ) (i : ℕ) (vs : List ℕ) → length l ≤ i → sets l i vs ≡ l
 sets_out l i [] h = refl
 sets_out l i (v ∷ vs) h = rw (set_out l i v h) (sets_out l (suc i) vs (omega arith))
+
+-- byte by byte: one turn, and the end
+pub sets_next : (l : List ℕ) (i : ℕ) (vs : List ℕ) (j : ℕ) → j < length vs →
+    sets l (i + j) (drop j vs) ≡ sets (set l (i + j) (get_or vs j 0)) (i + (j + 1)) (drop (j + 1) vs)
+sets_next l i vs j h = let e : i + (j + 1) ≡ suc (i + j) = omega arith in rw (drop-cons vs j 0 h, e, add-one)
+
+pub sets_all : (l : List ℕ) (i : ℕ) (vs : List ℕ) (j : ℕ) → length vs ≤ j → sets l (i + j) (drop j vs) ≡ l
+sets_all l i vs j h = let e : drop j vs ≡ [] = drop_of_length-le vs {i = j} h in rw e
 
 -- as many as there is room for: those past the end change nothing
 sets_cut : (l : List ℕ) (i : ℕ) (vs : List ℕ) (n : ℕ) → n ≤ length vs → length l ≤ i + n → sets l i vs ≡ sets l i (take n vs)

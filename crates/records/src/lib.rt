@@ -159,26 +159,27 @@ pub fn put1(out: &mut [u8], i: usize, v: u8)
     }
 }
 
-// As many bytes as there is room for. Where the room is known, the compiler stores them at once.
-fn put_bytes(out: &mut [u8], i: usize, bytes: &[u8])
+// As many bytes as there is room for.
+fn put_each(out: &mut [u8], i: usize, bytes: &[u8])
     ensures { out.new ≡ sets out.old i bytes.now }
 {
     if i < out.len() {
-        let n = bytes.len().min(out.len() - i);
-        out[i..i + n].copy_from_slice(&bytes[..n]);
+        for (j, byte) in bytes.iter().enumerate() {
+            put1(out, i + j, *byte);
+        }
     }
 }
 
 pub fn put2(out: &mut [u8], i: usize, v: u16)
     ensures { out.new ≡ sets out.old i (little_endian 2 v) }
 {
-    put_bytes(out, i, &v.to_le_bytes());
+    put_each(out, i, &v.to_le_bytes());
 }
 
 pub fn put8(out: &mut [u8], i: usize, v: u64)
     ensures { out.new ≡ sets out.old i (little_endian 8 v) }
 {
-    put_bytes(out, i, &v.to_le_bytes());
+    put_each(out, i, &v.to_le_bytes());
 }
 
 // The front of a record at the start of a part of the output.
@@ -187,6 +188,17 @@ pub fn put_front(part: &mut [u8], kind: u16, len: u16)
 {
     put2(part, 0, len);
     put2(part, 2, kind);
+}
+
+// Bytes that there is room for, each stored once: a copy by the C library may store one twice, and a robot has no more of that library than the copy
+// of what can't overlap.
+fn put_bytes(part: &mut [u8], i: usize, bytes: &[u8])
+    requires { i + length bytes.now ≤ length part.old }
+    ensures { part.new ≡ sets part.old i bytes.now }
+{
+    for (j, byte) in bytes.iter().enumerate() {
+        part[i + j] = *byte;
+    }
 }
 
 fn put_record(part: &mut [u8], kind: u16, body: &[u8])

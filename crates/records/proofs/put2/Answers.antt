@@ -6,4 +6,4 @@ use Rattle.records.proofs.BytesLaws.{two_bytes_of}
 use Rattle.records.proofs.put2.Goals as goal
 
 pub returns : goal.returns
-returns c = c.put_bytes.ensures ∙ ap (sets _ _) (c.to_le_bytes.ensures ∙ two_bytes_of c.args.v)
+returns c = c.put_each.ensures ∙ ap (sets _ _) (c.to_le_bytes.ensures ∙ two_bytes_of c.args.v)

@@ -6,4 +6,4 @@ use Rattle.records.proofs.BytesLaws.{eight_bytes_of}
 use Rattle.records.proofs.put8.Goals as goal
 
 pub returns : goal.returns
-returns c = c.put_bytes.ensures ∙ ap (sets _ _) (c.to_le_bytes.ensures ∙ eight_bytes_of c.args.v)
+returns c = c.put_each.ensures ∙ ap (sets _ _) (c.to_le_bytes.ensures ∙ eight_bytes_of c.args.v)

@@ -1,11 +1,18 @@
--- `records::put_bytes` meets its contract: what is past the end is not stored, and `sets` leaves it out too.
+-- `records::put_bytes` meets its contract: after j turns, what is left to store is what remains of the bytes.
 -- Assumes nothing.
-use mathlib.Core.Path.{sym}
-use Rattle.records.proofs.BytesLaws.{sets_out, put_some}
+use native.Mathlib.Nat.{add-zero}
+use mathlib.Core.Path.{refl, sym, ◌∙◌}
+use lib.ListN.{length-set}
+use Rattle.records.proofs.BytesLaws.{sets_next, sets_all}
 use Rattle.records.proofs.put_bytes.Goals as goal
 
-pub returns-then-i-out : goal.returns-then-i-out
-returns-then-i-out c = put_some _ _ _ _ _ c.if-i-out.true c.min-n.ensures c.copy_from_slice.ensures.after
+pub loop-j-init : goal.loop-j-init
+loop-j-init c = (refl, rw add-zero)
 
-pub returns-else-i-out : goal.returns-else-i-out
-returns-else-i-out c = sym (sets_out _ _ c.args.bytes.now c.if-i-out.false)
+pub loop-j-preserved : goal.loop-j-preserved
+loop-j-preserved c =
+    let l = c.loop-j in
+    (simp length-set l.invariant.0, l.invariant.1 ∙ sets_next _ _ _ _ c.loop-j-test.true)
+
+pub returns : goal.returns
+returns c = sym (c.loop-j.invariant.1 ∙ sets_all _ _ _ _ c.loop-j-test.false)
