@@ -1,4 +1,4 @@
-// The tasks 80 to 83, on a set or a number alone: all that the sets of rights, of types and of kinds and the three numberings are asked.
+// The tasks 80 to 84, on a set or a number alone: all that the sets of rights, of types and of kinds and the three numberings are asked.
 use crate::case::Bytes;
 use crate::print::Line;
 use records::Kinds;
@@ -29,7 +29,7 @@ fn two<T: Numbered>(line: &mut Line, x: T, y: T) {
     line.tell((x.is_zero(), x.byte()));
 }
 
-// Two numbers, in each of the three numberings. Whether two rights are one isn't told.
+// Two numbers, in each of the three numberings. Whether two rights are one is a task of its own, so that the lines of this one stay as they were.
 fn numbers(line: &mut Line, x: u8, y: u8) {
     let right = Right(x);
     line.tell(right.below(y));
@@ -43,6 +43,7 @@ pub(crate) fn task(line: &mut Line, task: u8, b: Bytes) {
         80 => rights_of(line, b),
         81 => types_of(line, b),
         82 => line.tell(Kinds(b.two_at(0)).has(b.two_at(2))),
+        84 => line.tell(Right(b.one_at(0)).is(Right(b.one_at(1)))),
         _ => numbers(line, b.one_at(0), b.one_at(1)),
     }
 }

@@ -460,11 +460,14 @@ const FUNCTIONS: &[(&str, &[u8])] = &[
     ("request_bytes::skip_request", &[0, 1, 2, 3, 4]),
     ("request_bytes::write_request", &[0, 4, 9]),
     ("request_list::count_requests", &[0]),
-    ("rights::Numbered::below", &[0, 1]),
-    ("rights::Numbered::is", &[0, 1]),
-    ("rights::Numbered::is_zero", &[0, 1]),
+    ("rights::Parameter::below", &[0, 1]),
     ("rights::Parameter::byte", &[0]),
+    ("rights::Parameter::is", &[0, 1]),
+    ("rights::Parameter::is_zero", &[0, 1]),
+    ("rights::Right::below", &[0, 1]),
     ("rights::Right::byte", &[0]),
+    ("rights::Right::is", &[0, 1]),
+    ("rights::Right::is_zero", &[0, 1]),
     ("rights::Right::partner", &[0]),
     ("rights::Right::single", &[0]),
     ("rights::RightSet::all", &[0]),
@@ -475,7 +478,10 @@ const FUNCTIONS: &[(&str, &[u8])] = &[
     ("rights::RightSet::has", &[0, 1]),
     ("rights::RightSet::is_empty", &[0, 1]),
     ("rights::RightSet::within", &[0, 1]),
+    ("rights::ThingType::below", &[0, 1]),
     ("rights::ThingType::byte", &[0]),
+    ("rights::ThingType::is", &[0, 1]),
+    ("rights::ThingType::is_zero", &[0, 1]),
     ("rights::TypeSet::has", &[0, 1]),
     ("rights::TypeSet::within", &[0, 1]),
     ("scheme_bytes::no_scheme", &[0]),
@@ -539,21 +545,24 @@ fn public_functions() -> BTreeSet<String> {
         if parts.len() == 4 {
             parts.remove(1);
         }
-        // What an `impl` of a trait gives has both names before it: a conversion is its type's. Of the numberings only `byte` is each one's own, the
-        // others are the trait's, written once.
-        let [_, given, method] = &mut parts[..] else {
+        // What an `impl` of a trait gives has both names before it: it is its type's, also where the trait writes it once for all of them.
+        let [_, given, _] = &mut parts[..] else {
             return below.contains(parts[0]).then(|| parts.join("::"));
         };
         *given = match *given {
             "FaultFromU8" => "Fault",
             "U8FromFault" => "u8",
-            name if *method == "byte" => name.trim_end_matches("Numbered"),
-            name if name.ends_with("Numbered") => "Numbered",
-            name => name,
+            name => name.trim_end_matches("Numbered"),
         };
         below.contains(parts[0]).then(|| parts.join("::"))
     };
-    lines.lines().filter_map(contract).collect()
+    let mut functions = BTreeSet::new();
+    for function in lines.lines().filter_map(contract) {
+        // No two lines are one entry: where one of them isn't asked, the other would hide it.
+        let is_new = functions.insert(function.clone());
+        assert!(is_new, "two lines of crates/tight: {function}");
+    }
+    functions
 }
 
 /// Every public function below `robot` and `printout` stands in the table above, so that a line is made of it.
