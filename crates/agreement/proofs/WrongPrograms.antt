@@ -5,13 +5,14 @@ use native.Mathlib.Omega.{arith}
 use mathlib.Core.Path.{◌≡◌, refl, sym, ap, ◌∙◌}
 use mathlib.Core.List.{List, [], ◌∷◌}
 use lib.ListN.{get_or, replicate}
-use Rattle.records.specs.Outcome.Writing.{Writing}
+use Rattle.std.specs.Prelude.{Result}
+use Rattle.faults.specs.declared.Fault.{Fault}
 use Rattle.model.specs.Request.{Request}
 use Rattle.model.specs.KeyExample.{key_scheme, key_matrix, ask}
-use Rattle.convert.specs.Convert.{converted_scheme}
+use Rattle.totals.specs.Outcome.{as_totals}
 use Rattle.totals.proofs.TrueTotals.{true_totals}
 use Rattle.agreement.proofs.Computes.{examples_compute, converting_computes, schemes_compute, matrices_compute, lists_compute}
-use Rattle.agreement.specs.WrongPrograms.{Asked, Held, Into, Calls, stated_request, result_of, stated_cells, stated_scheme_bytes, stated_matrix_bytes, after_calls, stated_calls, WrongPrograms}
+use Rattle.agreement.specs.WrongPrograms.{Asked, Held, Into, Calls, stated_request, result_of, stated_cells, stated_scheme, stated_scheme_bytes, stated_matrix_bytes, after_calls, stated_calls, WrongPrograms}
 use Rattle.scheme_bytes.specs.Write.{write_scheme}
 use Rattle.matrix_bytes.specs.Write.{write_matrix}
 
@@ -43,7 +44,7 @@ record Computed : Type 0 where
   third_result : result_of (stated_request third) ≡ 14
   robot_cell : get_or (stated_cells start).1 50 0 ≡ 210
   key_rights : key_scheme.head.rights ≡ 4
-  robot_rights : (converted_scheme key_scheme).scheme.head.rights ≡ 8
+  robot_rights : (stated_scheme key_scheme).1.head.rights ≡ 8
   scheme_byte : get_or (stated_scheme_bytes roomy).1 4 0 ≡ 8
   scheme_copied : get_or (write_scheme (replicate 256 0) key_scheme).1 4 0 ≡ 4
   matrix_byte : get_or (stated_matrix_bytes roomy).1 4 0 ≡ 8
@@ -74,18 +75,18 @@ wrong_programs = record {
   copies_matrix = λ program copies meets.
       differ (ap (at 50) (sym (ap (λ r. r.1) (meets start)) ∙ copies start)) computed.robot_cell computed.start_cell (λ e. omega (arith, e));
   copies_scheme = λ program copies meets.
-      let e : (converted_scheme key_scheme).scheme ≡ key_scheme = sym (ap (λ r. r.scheme) (meets key_scheme)) ∙ copies key_scheme in
+      let e : (stated_scheme key_scheme).1 ≡ key_scheme = sym (ap (λ r. r.1) (meets key_scheme)) ∙ copies key_scheme in
       differ (ap (λ s. s.head.rights) e) computed.robot_rights computed.key_rights (λ e. omega (arith, e));
   copies_scheme_bytes = λ program copies meets.
-      differ (ap (λ (w : Writing × List ℕ). at 4 w.1) (sym (meets roomy) ∙ copies roomy)) computed.scheme_byte computed.scheme_copied (λ e. omega (arith, e));
+      differ (ap (λ (w : Result ℕ Fault × List ℕ). at 4 w.1) (sym (meets roomy) ∙ copies roomy)) computed.scheme_byte computed.scheme_copied (λ e. omega (arith, e));
   idle_scheme_bytes = λ program idle meets.
       differ (ap (at 4) (sym (ap (λ w. w.1) (meets roomy)) ∙ idle roomy)) computed.scheme_byte refl (λ e. omega (arith, e));
   copies_matrix_bytes = λ program copies meets.
-      differ (ap (λ (w : Writing × List ℕ). at 4 w.1) (sym (meets roomy) ∙ copies roomy)) computed.matrix_byte computed.matrix_copied (λ e. omega (arith, e));
+      differ (ap (λ (w : Result ℕ Fault × List ℕ). at 4 w.1) (sym (meets roomy) ∙ copies roomy)) computed.matrix_byte computed.matrix_copied (λ e. omega (arith, e));
   idle_matrix_bytes = λ program idle meets.
       differ (ap (at 4) (sym (ap (λ w. w.1) (meets roomy)) ∙ idle roomy)) computed.matrix_byte refl (λ e. omega (arith, e));
   whole_list_at_first = λ program early meets.
       let e = sym (meets one_of_two) ∙ early key_scheme key_matrix load_retire in
       differ (ap (λ m. at 49 m.cells) e) computed.after_one computed.after_two (λ e. omega (arith, e));
-  invented_totals = λ program h scheme matrix other meets. other (meets h ∙ true_totals h.scheme h.matrix scheme matrix);
+  invented_totals = λ program h scheme matrix other meets. other (meets h ∙ ap as_totals (true_totals h.scheme h.matrix scheme matrix));
 }

@@ -34,7 +34,7 @@ use Rattle.convert.specs.Convert.{convert_scheme_into, convert_matrix_into}
 use Rattle.convert.specs.Inner.Parts.{convert_head}
 use Rattle.convert.proofs.SchemeLaws.{head_converted}
 
--- ---- a scheme as a value
+-- ---- a scheme where it lies
 converts_if : (s : Scheme) → conversion_fault s ≡ none → T (convertible s)
 unfolding convertible passes
 converts_if s e = rw e tt
@@ -48,9 +48,10 @@ pub convertible_if : (s : Scheme) → Ok tt ≡ as_checked (conversion_fault s) 
 convertible_if s e = converts_if s (fine_back (conversion_fault s) e)
 
 module _ {x : FaultNamed} where
-  scheme_stops : (s : Scheme) (f : Fault) → Err x ≡ as_checked f → Err x ≡ scheme_result (converted_by s f)
+  scheme_stops : (s : Scheme) (f : Fault) → Err x ≡ as_checked f →
+      ◌≡◌ {A = Result (Unit {0}) FaultNamed × Scheme} (Err x, s) (scheme_result (converted_by s f))
   scheme_stops s none e = constructors_differ (cc)
-  scheme_stops s (some k) e = let g : x ≡ fault_of k = cc in ap Err g
+  scheme_stops s (some k) e = let g : x ≡ fault_of k = cc in rw g
 
   cells_stop : (s : Scheme) (m : Matrix) (f : Fault) → Err x ≡ as_checked f →
       ◌≡◌ {A = Result (Unit {0}) FaultNamed × List ℕ} (Err x, m.cells) (cells_result (cells_by s m f))
@@ -58,18 +59,21 @@ module _ {x : FaultNamed} where
   cells_stop s m (some k) e = let g : x ≡ fault_of k = cc in rw g
 
 module _ (s : Scheme) where
-  pub scheme_27 : accepted_scheme s ≡ false → Err NotAccepted ≡ scheme_result (converted_scheme s)
+  abbrev Left : Result (Unit {0}) FaultNamed → Scheme → Type 0
+  Left r now = ◌≡◌ {A = Result (Unit {0}) FaultNamed × Scheme} (r, now) (scheme_result (converted_scheme s))
+
+  pub scheme_27 : accepted_scheme s ≡ false → Left (Err NotAccepted) s
   unfolding converted_scheme scheme_fault fault_of
   scheme_27 e = rw e
 
   module _ (a : accepted_scheme s ≡ true) where
-    pub scheme_refused : {x : FaultNamed} → Err x ≡ as_checked (conversion_fault s) → Err x ≡ scheme_result (converted_scheme s)
+    pub scheme_refused : {x : FaultNamed} → Err x ≡ as_checked (conversion_fault s) → Left (Err x) s
     unfolding converted_scheme scheme_fault
     scheme_refused e = rw a (scheme_stops s (conversion_fault s) e)
 
-    pub scheme_done : Ok tt ≡ as_checked (conversion_fault s) → (r : Scheme) → r ≡ convert_scheme s → Ok r ≡ scheme_result (converted_scheme s)
+    pub scheme_done : Ok tt ≡ as_checked (conversion_fault s) → (now : Scheme) → now ≡ convert_scheme s → Left (Ok tt) now
     unfolding converted_scheme scheme_fault
-    scheme_done e r f = rw (a, fine_back (conversion_fault s) e, f)
+    scheme_done e now f = rw (a, fine_back (conversion_fault s) e, f)
 
 -- ---- the cells of a matrix
 module _ (s : Scheme) (m : Matrix) where
@@ -90,13 +94,13 @@ module _ (s : Scheme) (m : Matrix) where
     cells_done e cells f = rw (a, b, fine_back (conversion_fault s) e, f)
 
 -- ---- what a call tells of the fault, and a fault of what was checked
-by_refused : (out bytes : List ℕ) (s : Scheme) (f : Fault) {x : FaultNamed} → Err x ≡ scheme_result (converted_by s f) →
+by_refused : (out bytes : List ℕ) (s : Scheme) (f : Fault) {x : FaultNamed} → Err x ≡ (scheme_result (converted_by s f)).0 →
     ◌≡◌ {A = Result ℕ FaultNamed × List ℕ} (Err x, out) (written (written_by out bytes f))
 by_refused out bytes s none e = constructors_differ (cc)
 by_refused out bytes s (some k) {x} e = let g : x ≡ fault_of k = cc in rw g
 
-by_done : (s : Scheme) (f : Fault) {r : Scheme} → Ok r ≡ scheme_result (converted_by s f) → (f ≡ none) × (r ≡ convert_scheme s)
-by_done s none e = (refl, cc)
+by_done : (s : Scheme) (f : Fault) → Ok tt ≡ (scheme_result (converted_by s f)).0 → f ≡ none
+by_done s none e = refl
 by_done s (some k) e = constructors_differ (cc)
 
 cells_by_refused : (out bytes : List ℕ) (s : Scheme) (m : Matrix) (f : Fault) {x : FaultNamed} → Err x ≡ (cells_result (cells_by s m f)).0 →
@@ -114,23 +118,35 @@ past_27 false f e = constructors_differ (cc)
 
 -- ---- as bytes
 module _ (out : List ℕ) (s : Scheme) where
-  pub bytes_refused : {x : FaultNamed} → Err x ≡ scheme_result (converted_scheme s) →
-      ◌≡◌ {A = Result ℕ FaultNamed × List ℕ} (Err x, out) (written (convert_scheme_into out s))
-  unfolding converted_scheme convert_scheme_into
-  bytes_refused e = by_refused out _ s (scheme_fault s) e
-
   scheme_written : Converts → scheme_fault s ≡ none → write_scheme out (convert_scheme s) ≡ convert_scheme_into out s
   unfolding write_scheme convert_scheme_into scheme_fault
   scheme_written converts f =
       let (a, b) = past_27 (accepted_scheme s) (conversion_fault s) f in
       rw (is_true (accepted_scheme (convert_scheme s)) (converts.scheme s (from_true a) (converts_if s b)).0, f)
 
-  pub bytes_done : Converts → {r : Scheme} → Ok r ≡ scheme_result (converted_scheme s) → (w : Result ℕ FaultNamed × List ℕ) →
-      w ≡ written (write_scheme out r) → w ≡ written (convert_scheme_into out s)
-  unfolding converted_scheme
-  bytes_done converts e w g =
-      let (f, same) = by_done s (scheme_fault s) e in
-      g ∙ ap (λ (x : Scheme). written (write_scheme out x)) same ∙ ap written (scheme_written converts f)
+  -- the call on a copy of the scheme
+  module _ {a : Result (Unit {0}) FaultNamed} {now : Scheme}
+      (told : ◌≡◌ {A = Result (Unit {0}) FaultNamed × Scheme} (a, now) (scheme_result (converted_scheme s))) where
+    scheme_answer : a ≡ (scheme_result (converted_scheme s)).0
+    scheme_answer = ap (λ (x : Result (Unit {0}) FaultNamed × Scheme). x.0) told
+
+    pub bytes_refused : {x : FaultNamed} → a ≡ Err x → ◌≡◌ {A = Result ℕ FaultNamed × List ℕ} (Err x, out) (written (convert_scheme_into out s))
+    unfolding converted_scheme convert_scheme_into
+    bytes_refused f = by_refused out _ s (scheme_fault s) (sym f ∙ scheme_answer)
+
+    no_scheme_fault : a ≡ Ok tt → scheme_fault s ≡ none
+    unfolding converted_scheme
+    no_scheme_fault f = by_done s (scheme_fault s) (sym f ∙ scheme_answer)
+
+    now_is : scheme_fault s ≡ none → now ≡ convert_scheme s
+    unfolding converted_scheme
+    now_is f = ap (λ (x : Result (Unit {0}) FaultNamed × Scheme). x.1) told ∙ rw f
+
+    pub bytes_done : Converts → a ≡ Ok tt → (w : Result ℕ FaultNamed × List ℕ) → w ≡ written (write_scheme out now) →
+        w ≡ written (convert_scheme_into out s)
+    bytes_done converts f w g =
+        let h = no_scheme_fault f in
+        g ∙ ap (λ (x : Scheme). written (write_scheme out x)) (now_is h) ∙ ap written (scheme_written converts h)
 
 module _ (out : List ℕ) (s : Scheme) (m : Matrix) where
   pub matrix_27 : (length m.cells ≡ 2304 → ⊥) → ◌≡◌ {A = Result ℕ FaultNamed × List ℕ} (Err NotAccepted, out) (written (convert_matrix_into out s m))

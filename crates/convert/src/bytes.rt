@@ -14,7 +14,8 @@ use model::{Scheme, Things};
 pub fn convert_scheme(out: &mut [u8], s: Scheme) -> Result<usize, Fault>
     ensures { ◌≡◌ {A = Result ℕ Fault × List ℕ} (result, out.new) (written (convert_scheme_into out.old s)) }
 {
-    let robot = converted_scheme(s)?;
+    let mut robot = s;
+    converted_scheme(&mut robot)?;
     scheme_write::write_scheme(out, robot)
 }
 

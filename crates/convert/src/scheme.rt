@@ -1,5 +1,5 @@
 // A scheme converted, and what refuses that.
-ghost use Rattle.std.specs.Prelude.{◌≡◌, ◌≤◌, T, leb};
+ghost use Rattle.std.specs.Prelude.{◌≡◌, ◌≤◌, T, leb, Result};
 ghost use Rattle.laws.specs.Check.{all};
 ghost use Rattle.accepted.specs.Answers.{as_checked};
 ghost use Rattle.model.specs.Scheme.{commands_of, operations_of};
@@ -8,6 +8,8 @@ ghost use Rattle.conversion.specs.Conversion.{conversion_fault, convertible, con
 ghost use Rattle.convert.specs.Inner.Parts.{convert_head};
 ghost use Rattle.convert.specs.Convert.{converted_scheme};
 ghost use Rattle.convert.specs.Results.{scheme_result};
+ghost use Rattle.faults.specs.declared.Fault.{Fault};
+ghost use Rattle.model.specs.declared.Scheme.{Scheme};
 
 use crate::command::{convert_command, keep_things};
 use accepted::scheme_accepted;
@@ -81,13 +83,14 @@ fn convert_all(s: Scheme) -> Scheme
     }
 }
 
-// The scheme converted: 27, then 20, 21, 22, each over all of it.
-pub fn converted_scheme(s: Scheme) -> Result<Scheme, Fault>
-    ensures { result ≡ scheme_result (converted_scheme s) }
+// The scheme converted where it lies, one that is refused left as it was: 27, then 20, 21, 22, each over all of it.
+pub fn converted_scheme(s: &mut Scheme) -> Result<(), Fault>
+    ensures { ◌≡◌ {A = Result Unit Fault × Scheme} (result, s.new) (scheme_result (converted_scheme s.old)) }
 {
-    if !scheme_accepted(s) {
+    if !scheme_accepted(*s) {
         return Err(Fault::NotAccepted);
     }
-    conversion_fault(s)?;
-    Ok(convert_all(s))
+    conversion_fault(*s)?;
+    *s = convert_all(*s);
+    Ok(())
 }

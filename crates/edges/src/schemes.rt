@@ -4,14 +4,6 @@ use crate::print::Line;
 use crate::values;
 use model::Scheme;
 
-fn convert(line: &mut Line, s: &mut Scheme) {
-    let converted = convert::converted_scheme(*s);
-    line.tell(converted.map(|_| ()));
-    if let Ok(robot) = converted {
-        *s = robot;
-    }
-}
-
 // The place that the command is put at stands before the bytes; of one that is refused there is nothing.
 fn command(line: &mut Line, case: Case, s: &mut Scheme) {
     let read = command_bytes::read_command(case.bytes.behind(1).0, case.at, s.head);
@@ -27,7 +19,7 @@ pub(crate) fn task(line: &mut Line, case: Case, s: &mut Scheme) {
         1 => *s = scheme_bytes::no_scheme(),
         2 => values::set_head(b, s),
         3 => values::set_command(b, s),
-        4 => convert(line, s),
+        4 => line.tell(convert::converted_scheme(s)),
         5 => command(line, case, s),
         6 => values::put_command(b, command_bytes::no_command(), s),
         _ => {}

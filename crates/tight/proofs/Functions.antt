@@ -173,7 +173,7 @@ convert M = record {
   convert_matrix = equation (λ κs a z w p i. ((p i).0, ((p i).1, z.1.1)));
   convert_scheme = equation (λ κs a z w p i. ((p i).0, ((p i).1, z.1.1)));
   converted_cells = equation (λ κs a z w p i. ((p i).0, (tt, (tt, ((p i).1, z.1.1.1.1)))));
-  converted_scheme = equation (λ κs a z w p i. (p i, z.1));
+  converted_scheme = equation (λ κs a z w p i. ((p i).0, ((p i).1, z.1.1)));
 }
 
 pub lines : (M : Type 1) → Lines M

@@ -4,10 +4,10 @@ use Rattle.conversion.proofs.Converted.{converts}
 use Rattle.convert.proofs.AnswerLaws.{bytes_refused, bytes_done}
 use Rattle.convert.proofs.bytes.convert_scheme.Goals as goal
 
-pub returns-in_err-robot : goal.returns-in_err-robot
-returns-in_err-robot c =
+pub returns-in_err-converted_scheme : goal.returns-in_err-converted_scheme
+returns-in_err-converted_scheme c =
     let p = err_from_is_err_and c.from_residual.result c.from_residual.ensures.1 in
-    rw (p.1, p.2) (bytes_refused _ _ c.in_err-robot.ensures)
+    rw (p.1, p.2) (bytes_refused _ _ c.converted_scheme.ensures c.in_err-converted_scheme.was)
 
 pub returns : goal.returns
-returns c = bytes_done _ _ converts c.in_ok-robot.ensures _ c.write_scheme.ensures
+returns c = bytes_done _ _ c.converted_scheme.ensures converts c.in_ok-converted_scheme.was _ c.write_scheme.ensures
