@@ -7,10 +7,9 @@ use rights::Parameter;
 
 type Spots = [u8; Parameters::PLACES];
 
-// The answer, all spots, and one of them; a refusal has none but zeros.
-fn told(line: &mut Line, answer: Result<Spots, Refusal>, at: usize) {
-    let spots = answer.unwrap_or([0; Parameters::PLACES]);
-    line.tell(answer.map(|_| ()));
+// The answer, all spots as they were left, and one of them.
+fn told(line: &mut Line, answer: Result<(), Refusal>, spots: Spots, at: usize) {
+    line.tell(answer);
     line.tell(sum::numbers(&spots));
     line.tell(plan::seat_at(spots, Parameter((at % 256) as u8)));
 }
@@ -28,14 +27,11 @@ pub(crate) fn task(line: &mut Line, b: Bytes, at: usize, s: &Scheme, th: &mut Th
     let command = values::command_at(s, asked.command as usize);
     let parameters = command.parameters;
     let operations = command.operations;
-    told(
-        line,
-        plan::locate(th, parameters, operations, asked.ids()),
-        at,
-    );
-    let planned = plan::plan_all(*th, spots(b), parameters, asked.ids(), operations);
-    told(line, planned.map(|plan| plan.spots), at);
-    if let Ok(plan) = planned {
-        *th = plan.things;
-    }
+    // No zeros are lent to `locate` either, so that it shows what a refusal leaves.
+    let mut found = spots(b);
+    let answer = plan::locate(th, parameters, operations, asked.ids(), &mut found);
+    told(line, answer, found, at);
+    let mut planned = spots(b);
+    let answer = plan::plan_all(th, &mut planned, parameters, asked.ids(), operations);
+    told(line, answer, planned, at);
 }

@@ -1,7 +1,7 @@
 -- What a command answers at each way out of the code, over plain lists and numbers. The answers that the functions called have given are variables, so
 -- that a function's proof names few places of its context. Assumes nothing.
 use Prim.Native.Nat.{ℕ}
-use mathlib.Core.Path.{◌≡◌, refl}
+use mathlib.Core.Path.{◌≡◌, refl, ap}
 use mathlib.Core.Option.{Option, none, some}
 use mathlib.Core.List.{List}
 use lib.ListN.{length}
@@ -15,9 +15,10 @@ use Rattle.model.specs.Seats.{Matrix, matrix_of, seats}
 use Rattle.model.specs.declared.Operation.{Operation}
 use Rattle.model.specs.declared.Command.{Command}
 use Rattle.model.specs.declared.Refusal.{Refusal}
+use Rattle.model.specs.declared.Things.{Things}
 use Rattle.std.specs.Prelude.{Result, Ok, Err}
-use Rattle.plan.specs.Locate.{bare, spots_of, unless, located}
-use Rattle.plan.specs.Plan.{plan_of, plan_all, as_result}
+use Rattle.plan.specs.Locate.{bare, spots_of, unless, located, located_into}
+use Rattle.plan.specs.Plan.{plan_of, plan_all, planned_into}
 use Rattle.plan.specs.declared.plan.Plan.{Plan}
 use Rattle.engine.specs.Inner.Cells.{first_false, cells_after}
 use Rattle.engine.specs.Inner.Carry.{Carried, carried, carried_by, planned}
@@ -32,26 +33,35 @@ verdict_none : (f : Option Refusal) → Ok tt ≡ verdict_of f → f ≡ none
 verdict_none none e = refl
 verdict_none (some q) e = cc
 
-place_fault : (spots : List ℕ) (f : Option Refusal) (r : Refusal) → Err r ≡ unless spots f → f ≡ some r
-place_fault spots none r e = cc
-place_fault spots (some q) r e = cc
+abbrev Located : Result (Unit {0}) Refusal → List ℕ → Result (List ℕ) Refusal → Type 0
+Located result found q = ◌≡◌ {A = Result (Unit {0}) Refusal × List ℕ} (result, found) (located_into q)
 
-place_none : (spots found : List ℕ) (f : Option Refusal) → Ok found ≡ unless spots f → (f ≡ none) × (found ≡ spots)
-place_none spots found none e = (refl, cc)
-place_none spots found (some q) e = cc
+place_fault : (spots found : List ℕ) (f : Option Refusal) (r : Refusal) → Located (Err r) found (unless spots f) → f ≡ some r
+place_fault spots found none r e = cc (ap (λ z. z.0) e)
+place_fault spots found (some q) r e = cc (ap (λ z. z.0) e)
+
+place_none : (spots found : List ℕ) (f : Option Refusal) → Located (Ok tt) found (unless spots f) → (f ≡ none) × (found ≡ spots)
+place_none spots found none e = (refl, ap (λ z. z.1) e)
+place_none spots found (some q) e = cc (ap (λ z. z.0) e)
 
 -- ---- the plan carried out on the cells
-module _ (cells : List ℕ) (os : List Operation) where
-  carried_stop : (q : Outcome Plan) (r : Refusal) → Err r ≡ as_result q → carried_by cells os q ≡ refused r
-  unfolding carried_by
-  carried_stop (done p) r e = cc
-  carried_stop (refused q) r e = cc
+module _ (cells : List ℕ) (os : List Operation) (th next : Things) (left : List ℕ) where
+  abbrev Planned : Result (Unit {0}) Refusal → Outcome Plan → Type 0
+  Planned result q = ◌≡◌ {A = Result (Unit {0}) Refusal × Things × List ℕ} (result, next, left) (planned_into th q)
 
-  carried_done : (q : Outcome Plan) (plan : Plan) → Ok plan ≡ as_result q → (out : List ℕ) → out ≡ cells_after plan.spots os cells
-      → carried_by cells os q ≡ done (matrix_of plan.things out)
+  carried_stop : (q : Outcome Plan) (r : Refusal) → Planned (Err r) q → (carried_by cells os q ≡ refused r) × (next ≡ th)
   unfolding carried_by
-  carried_done (done p) plan e out o = let k : plan ≡ p = cc in rw (o, k)
-  carried_done (refused q) plan e out o = cc
+  carried_stop (done p) r e = cc (ap (λ z. z.0) e)
+  carried_stop (refused q) r e = (cc (ap (λ z. z.0) e), ap (λ z. z.1) e)
+
+  carried_done : (q : Outcome Plan) → Planned (Ok tt) q → (out : List ℕ) → out ≡ cells_after left os cells
+      → carried_by cells os q ≡ done (matrix_of next out)
+  unfolding carried_by
+  carried_done (done p) e out o =
+      let things : next ≡ p.things = ap (λ z. z.1) e in
+      let spots : left ≡ p.spots = ap (λ z. z.2) e in
+      rw (o, things, spots)
+  carried_done (refused q) e out o = cc (ap (λ z. z.0) e)
 
 -- ---- the ways out
 
@@ -85,11 +95,11 @@ module _ (c : Command) (m : Matrix) (ids : List ℕ) where
   stops_11 h = stops (at 11 0) (rw (ne_eqb (length ids) c.parameters.count h))
 
   module _ (long : length ids ≡ c.parameters.count) where
-    pub stops_place : (r : Refusal) → Err r ≡ located m.things os types ids → Gives (Err r) m
+    pub stops_place : (r : Refusal) (found : List ℕ) → Located (Err r) found (located m.things os types ids) → Gives (Err r) m
     unfolding planned must ◌or_else◌ unless_fault located
-    stops_place r e = stops r (rw (eq-eqb (length ids) c.parameters.count long, place_fault spots unplaced r e))
+    stops_place r found e = stops r (rw (eq-eqb (length ids) c.parameters.count long, place_fault spots found unplaced r e))
 
-    module _ (found : List ℕ) (place : Ok found ≡ located m.things os types ids) where
+    module _ (found : List ℕ) (place : Located (Ok tt) found (located m.things os types ids)) where
       seated : (unplaced ≡ none) × (found ≡ spots)
       unfolding located
       seated = place_none spots found unplaced place
@@ -103,10 +113,15 @@ module _ (c : Command) (m : Matrix) (ids : List ℕ) where
         unfolding planned must ◌or_else◌ unless_fault
         planned_on = rw (eq-eqb (length ids) c.parameters.count long, seated.0, verdict_none (untrue spots) (rw seated.1 at hold), seated.1)
 
-        pub stops_plan : (r : Refusal) → Err r ≡ as_result (plan_all types ids 0 os (plan_of m.things found)) → Gives (Err r) m
-        stops_plan r e = stops r (rw planned_on (carried_stop m.cells os _ r e))
+        module _ (next : Things) (left : List ℕ) where
+          abbrev Plans : Result (Unit {0}) Refusal → Type 0
+          Plans result = Planned m.cells os m.things next left result (plan_all types ids 0 os (plan_of m.things found))
 
-        pub carries : (plan : Plan) → Ok plan ≡ as_result (plan_all types ids 0 os (plan_of m.things found))
-            → (out : List ℕ) → out ≡ cells_after plan.spots os m.cells → Gives (Ok tt) (matrix_of plan.things out)
-        unfolding answer after
-        carries plan e out o = rw (planned_on, carried_done m.cells os _ plan e out o)
+          pub stops_plan : (r : Refusal) → Plans (Err r) → Gives (Err r) (matrix_of next m.cells)
+          stops_plan r e =
+              let (stop, same) = carried_stop m.cells os m.things next left _ r e in
+              rw same (stops r (rw planned_on stop))
+
+          pub carries : Plans (Ok tt) → (out : List ℕ) → out ≡ cells_after left os m.cells → Gives (Ok tt) (matrix_of next out)
+          unfolding answer after
+          carries e out o = rw (planned_on, carried_done m.cells os m.things next left _ e out o)

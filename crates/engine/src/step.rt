@@ -10,7 +10,7 @@ use crate::cells::{change_all, test_all};
 use crate::replies::reply;
 use accepted::scheme_accepted;
 use accepted_matrix::matrix_accepted;
-use model::{Command, Refusal, Reply, Scheme, Things};
+use model::{Command, Parameters, Refusal, Reply, Scheme, Things};
 use plan::{locate, plan_all};
 
 // A command with these ids: all faults first, then the cells.
@@ -24,11 +24,11 @@ fn carry_out(c: Command, th: &mut Things, cells: &mut [u64], ids: &[u16]) -> Res
             place: 0,
         });
     }
-    let spots = locate(th, c.parameters, c.operations, ids)?;
+    let mut spots = [0u8; Parameters::PLACES];
+    locate(th, c.parameters, c.operations, ids, &mut spots)?;
     test_all(cells, spots, c.tests)?;
-    let plan = plan_all(*th, spots, c.parameters, ids, c.operations)?;
-    change_all(cells, plan.spots, c.operations);
-    *th = plan.things;
+    plan_all(th, &mut spots, c.parameters, ids, c.operations)?;
+    change_all(cells, spots, c.operations);
     Ok(())
 }
 

@@ -17,7 +17,7 @@ use Rattle.model.specs.declared.Things.{Things}
 use Rattle.model.specs.declared.Operation.{Operation}
 use Rattle.model.specs.declared.Refusal.{Refusal}
 use Rattle.std.specs.Prelude.{Result, Ok, Err, None, Some}
-use Rattle.plan.specs.Plan.{seat_at, plan_of, plan_create, plan_destroy, plan_by, plan_all, as_result}
+use Rattle.plan.specs.Plan.{seat_at, plan_of, plan_create, plan_destroy, plan_by, plan_all}
 use Rattle.plan.specs.Inner.Change.{changed, free_seat}
 use Rattle.plan.specs.declared.plan.Plan.{Plan}
 use Rattle.model.proofs.SeatFound.{full_found, free_found}
@@ -89,8 +89,8 @@ stopped plan next k (refused j) e = cc (ap (λ z. z.0) e)
 
 -- what is left at place i gives, on the plan so far
 module _ (types : List ThingType) (ids : List ℕ) where
-  abbrev pub planned_from : Plan → ℕ → List Operation → Result Plan Refusal
-  planned_from plan i os = as_result (plan_all types ids i os plan)
+  abbrev pub planned_from : Plan → ℕ → List Operation → Outcome Plan
+  planned_from plan i os = plan_all types ids i os plan
 
   module _ (plan next : Plan) (i : ℕ) (o : Operation) where
     pub plan_on : ◌≡◌ {A = Result (Unit {0}) Refusal × Plan} (Ok tt, next) (changed plan (plan_by types ids i o plan o.code)) →
@@ -99,6 +99,6 @@ module _ (types : List ThingType) (ids : List ℕ) where
     plan_on is os = rw (planned plan next (plan_by types ids i o plan o.code) is, add-one i)
 
     pub plan_stop : (k : Refusal) → ◌≡◌ {A = Result (Unit {0}) Refusal × Plan} (Err k, next) (changed plan (plan_by types ids i o plan o.code)) →
-        (os : List Operation) → Err k ≡ planned_from plan i (o ∷ os)
+        (os : List Operation) → refused k ≡ planned_from plan i (o ∷ os)
     unfolding plan_all and_then
     plan_stop k is os = rw (stopped plan next k (plan_by types ids i o plan o.code) is)

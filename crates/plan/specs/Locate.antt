@@ -40,3 +40,8 @@ unless found (some r) = Err r
 
 unfoldable pub located : Things → List Operation → List ThingType → List ℕ → Result (List ℕ) Refusal
 located th os types ids = unless (spots_of th os types ids) (places_fault seats (bare th) os 0 types ids)
+
+-- the answer, and the spots that were lent: zeros where there is a fault
+abbrev pub located_into : Result (List ℕ) Refusal → Result (Unit {0}) Refusal × List ℕ
+located_into (Ok spots) = (Ok tt, spots)
+located_into (Err r) = (Err r, no_spots)

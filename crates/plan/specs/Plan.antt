@@ -13,6 +13,7 @@ use Rattle.model.specs.declared.Code.TheVariants.{Enter, Delete, Create, Destroy
 use Rattle.model.specs.declared.Operation.{Operation}
 use Rattle.model.specs.declared.Things.{Things}
 use Rattle.model.specs.declared.Refusal.{Refusal}
+use Rattle.plan.specs.Locate.{no_spots}
 use Rattle.plan.specs.declared.plan.Plan.{Plan}
 
 -- where a parameter's thing sits
@@ -45,7 +46,7 @@ unfoldable pub plan_all : List ThingType → List ℕ → ℕ → List Operation
 plan_all types ids place [] plan = done plan
 plan_all types ids place (o ∷ os) plan = and_then (plan_by types ids place o plan o.code) (plan_all types ids (suc place) os)
 
--- an outcome as functions give it
-abbrev pub as_result : {A : Type 0} → Outcome A → Result A Refusal
-as_result (done a) = Ok a
-as_result (refused r) = Err r
+-- the answer, and the things and the spots that were lent: a refused plan leaves the things as they were, and zeros as spots
+abbrev pub planned_into : Things → Outcome Plan → Result (Unit {0}) Refusal × Things × List ℕ
+planned_into th (done plan) = (Ok tt, plan.things, plan.spots)
+planned_into th (refused r) = (Err r, th, no_spots)

@@ -1,9 +1,9 @@
 // Where the parameters' things sit: the checks of each place (12, 13, 18).
-ghost use Rattle.std.specs.Prelude.{◌≡◌};
+ghost use Rattle.std.specs.Prelude.{◌≡◌, List, ℕ, Result};
 ghost use Rattle.std.proofs.Math.Option.{some};
 ghost use Rattle.model.specs.Request.{type_fault};
 ghost use Rattle.model.specs.Scheme.{creates, is_new, parameters_of, operations_of};
-ghost use Rattle.plan.specs.Locate.{unless, located};
+ghost use Rattle.plan.specs.Locate.{unless, located, located_into};
 ghost use Rattle.plan.specs.Inner.Spot.{spot_of};
 
 use model::{Code, Operation, Operations, Parameters, Refusal, Things};
@@ -66,21 +66,24 @@ fn spot_of(th: &Things, new: bool, t: ThingType, x: u16) -> Result<u8, Refusal>
     spot_at(i as u8, th.types[i], th.marks[i], t)
 }
 
-// The parameters' seats, or the first fault of their ids: as many places as there are parameters and ids. The things are lent: measured, a copy of them
-// for each place is what most requests would take longest with.
+// The parameters' seats, or the first fault of their ids: as many places as there are parameters and ids. Where there is a fault the spots are zeros, and
+// not the seats found before it. The things are lent: measured, a copy of them for each place is what most requests would take longest with.
 pub fn locate(
     th: &Things,
     p: Parameters,
     o: Operations,
     ids: &[u16],
-) -> Result<[u8; Parameters::PLACES], Refusal>
-    ensures { result ≡ located th.now (operations_of o) (parameters_of p) ids.now }
+    spots: &mut [u8; Parameters::PLACES],
+) -> Result<(), Refusal>
+    ensures { ◌≡◌ {A = Result Unit Refusal × List ℕ} (result, spots.new) (located_into (located th.now (operations_of o) (parameters_of p) ids.now)) }
 {
     let n = (p.count as usize).min(Parameters::PLACES).min(ids.len());
-    let mut spots = [0u8; Parameters::PLACES];
+    *spots = [0; Parameters::PLACES];
+    let mut found = [0u8; Parameters::PLACES];
     for i in 0..n {
         let new = is_new(o, Parameter(i as u8));
-        spots[i] = spot_of(th, new, p.types[i], ids[i])?;
+        found[i] = spot_of(th, new, p.types[i], ids[i])?;
     }
-    Ok(spots)
+    *spots = found;
+    Ok(())
 }

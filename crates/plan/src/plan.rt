@@ -1,7 +1,8 @@
 // The plan: what the creates and destroys make of a copy of the things (15, 16, 17).
-ghost use Rattle.std.specs.Prelude.{◌≡◌};
+ghost use Rattle.std.specs.Prelude.{◌≡◌, List, ℕ, Result};
 ghost use Rattle.model.specs.Scheme.{parameters_of, operations_of};
-ghost use Rattle.plan.specs.Plan.{plan_of, plan_create, plan_destroy, plan_by, plan_all, as_result};
+ghost use Rattle.model.specs.declared.Things.{Things};
+ghost use Rattle.plan.specs.Plan.{plan_of, plan_create, plan_destroy, plan_by, plan_all, planned_into};
 ghost use Rattle.plan.specs.Inner.Change.{changed, free_seat};
 
 use crate::spots::{put_spot, seat_at};
@@ -80,20 +81,29 @@ fn plan_one(
     }
 }
 
-// All operations in order, up to the first fault.
+// All operations in order, up to the first fault. They are planned on a copy, so that a fault leaves the things as they were, whatever was created before
+// it; the spots are zeros then.
 pub fn plan_all(
-    th: Things,
-    spots: [u8; Parameters::PLACES],
+    things: &mut Things,
+    spots: &mut [u8; Parameters::PLACES],
     p: Parameters,
     ids: &[u16],
     o: Operations,
-) -> Result<Plan, Refusal>
-    ensures { result ≡ as_result (plan_all (parameters_of p) ids.now 0 (operations_of o) (plan_of th spots)) }
+) -> Result<(), Refusal>
+    ensures { ◌≡◌ {A = Result Unit Refusal × Things × List ℕ} (result, things.new, spots.new) (planned_into things.old (plan_all (parameters_of p) ids.now 0 (operations_of o) (plan_of things.old spots.old))) }
 {
     let n = (o.count as usize).min(Operations::PLACES);
-    let mut plan = Plan { things: th, spots };
+    let before = *spots;
+    *spots = [0; Parameters::PLACES];
+    let mut plan = Plan {
+        things: *things,
+        spots: before,
+    };
     for (place, one) in o.list[..n].iter().enumerate() {
         plan_one(&mut plan, p, ids, place as u8, *one)?;
     }
-    Ok(plan)
+    let after = plan.spots;
+    *things = plan.things;
+    *spots = after;
+    Ok(())
 }

@@ -138,8 +138,8 @@ request_list M = record {
 
 pub plan : (M : Type 1) → Plan M
 plan M = record {
-  locate = equation (λ κs a z w p i. (p i, z.1));
-  plan_all = equation (λ κs a z w p i. (p i, z.1));
+  locate = equation (λ κs a z w p i. ((p i).0, (tt, (tt, (tt, (tt, ((p i).1, z.1.1.1.1.1.1)))))));
+  plan_all = equation (λ κs a z w p i. ((p i).0, ((p i).1, ((p i).2, z.1.1.1))));
   seat_at = equation (λ κs a z w p i. (p i, z.1));
 }
 

@@ -10,5 +10,5 @@ use Rattle.plan.proofs.places.locate.Given as goal
 
 abbrev pub invariant-loop-i : goal.invariant-loop-i
 invariant-loop-i l =
-    (length l.spots ≡ 8)
-    × Walk (located_from l.th (operations_of l.o) l.ids l.spots) l.p.types (min l.p.count 8) (located l.th (operations_of l.o) (parameters_of l.p) l.ids) l.i
+    (length l.found ≡ 8)
+    × Walk (located_from l.th (operations_of l.o) l.ids l.found) l.p.types (min l.p.count 8) (located l.th (operations_of l.o) (parameters_of l.p) l.ids) l.i
