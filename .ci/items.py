@@ -18,8 +18,9 @@ IN_CLAUSE = re.compile(r"""--|\{-|//|/\*|"|⟦|«[^»]*»|[{}]""")
 DEFAULT = re.compile(r"\s*=\s*(?=\{)")
 CLOSING = {"(": ")", "[": "]", "{": "}"}
 
-# the traits that std derives; another name would be a macro's, which could write any function
-DERIVES = set("Clone Copy Debug PartialEq Eq PartialOrd Ord Hash Drop Default".split())
+# What std derives, but for what nobody has given a line of crates/tight yet (`PartialOrd`, `Ord`, `Hash`, `Default`); another name would be a macro's, which
+# could write any function.
+DERIVES = set("Clone Copy Debug Drop Eq PartialEq".split())
 
 
 class Refused(Exception):
@@ -36,8 +37,9 @@ class Token:
 # `asks` tells that a function has a `requires`, or binds a ghost value, which can ask as much; `exported`, that it is made for C; `odd`, why no line of
 # crates/tight can speak of it, if so: what is passed at a type parameter has no last value in the contract, whatever the type, and a number's contract asks
 # that arrays of its length have a size. `head` is a function's text from its name to its last clause, `body` what it does, each token by token; of a trait
-# and an alias `head` is what they name. Of an `impl` of a trait `path` and `arguments` are the trait's, and `name` is the type's ("" where that is no plain
-# name), and `head` what it is generic in; of an import `path` is what its name stands for. `members` are the items of a trait or of an `impl` of one.
+# and an alias `head` is what they name; a type is `odd` where it is generic. Of an `impl` of a trait `path` and `arguments` are the trait's, and `name` is
+# the type's ("" where that is no plain name), and `head` what it is generic in; of an import `path` is what its name stands for. `members` are the items of a
+# trait or of an `impl` of one.
 @dataclass
 class Item:
     kind: str
@@ -187,7 +189,8 @@ class Reader:
             return []
         attributes = {}
         while self.next() == "#":
-            attributes |= self.attribute()
+            kind, traits = self.attribute()
+            attributes[kind] = attributes.get(kind, ()) + traits
         if within in ("trait", "given") and self.next() == "pub":
             self.refuse("a `pub` where none can stand")
         public = self.visibility()
@@ -232,7 +235,7 @@ class Reader:
         if kind == "derive" and [word for word in given[1:-1] if word != ","] != list(traits) or kind == "unsafe" and given != ("(", "no_mangle", ")"):
             self.refuse(f"an attribute that isn't known here: {kind}{' '.join(given)}")
         self.take("]")
-        return {kind: traits}
+        return kind, traits
 
     # (auto, using(path, ..), unfolding(path, ..))
     def tactic(self, *first):
@@ -351,11 +354,11 @@ class Reader:
 
     def type(self, public, owner, place):
         name, start = self.word(), self.at
-        self.angles()
+        odd = "is generic" if self.arguments() else ""
         self.skip_to("{", ";")
         self.skip()
         self.refuse_functions(start)
-        return [Item("type", name, public, owner, place)]
+        return [Item("type", name, public, owner, place, odd=odd)]
 
     def trait(self, public, owner, place):
         start, name = self.at, self.word()

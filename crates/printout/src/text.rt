@@ -12,7 +12,7 @@ use totals::Totals;
 
 // How far a request's line goes: `play` prints up to the test's place, `run` the steps too.
 #[derive(Clone, Copy, Debug, PartialEq, Eq)]
-pub enum Columns {
+pub(crate) enum Columns {
     ToTest,
     ToSteps,
 }

@@ -10,7 +10,7 @@ use records::Refused;
 
 // Where a fault lies.
 #[derive(Clone, Copy, Debug, PartialEq, Eq)]
-pub enum Place {
+pub(crate) enum Place {
     Scheme,
     Matrix,
     List,
@@ -20,7 +20,7 @@ pub enum Place {
 
 // Why a call was refused, and where.
 #[derive(Clone, Copy, Debug, PartialEq, Eq)]
-pub struct Failure {
+pub(crate) struct Failure {
     pub fault: Fault,
     pub place: Place,
     pub at: usize,
@@ -28,7 +28,7 @@ pub struct Failure {
 
 // What a call did: how far it read, how many answers it stored and how many bytes it wrote; and where a record of a list that can't be read has ended that.
 #[derive(Clone, Copy, Debug, PartialEq, Eq)]
-pub struct Success {
+pub(crate) struct Success {
     pub at: usize,
     pub count: usize,
     pub written: usize,

@@ -18,7 +18,7 @@ const LARGEST: usize = 37208;
 
 // How many answers and how many bytes a run will give.
 #[derive(Clone, Copy, Debug, PartialEq, Eq)]
-pub struct Needed {
+pub(crate) struct Needed {
     pub answers: usize,
     pub bytes: usize,
 }

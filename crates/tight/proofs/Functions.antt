@@ -1,6 +1,6 @@
 -- That every public function of every library crate has a tight contract: of each, how its ending is read off what the equation `p` determines. The result
 -- comes first, then a place for each parameter: what was lent, or `tt`; `z` fills in behind the last that was lent. Assumes nothing.
-use Rattle.tight.specs.Functions.{Faults, Rights, Accepted, Things, Records, AcceptedMatrix, CommandBytes, SchemeBytes, SchemeWrite, MatrixRecords, MatrixBytes, MatrixWrite, RequestBytes, RequestList, Plan, Engine, Hold, Moving, Totals, Convert, Lines, Printout, Robot}
+use Rattle.tight.specs.Functions.{Faults, Rights, Model, Accepted, Things, Records, AcceptedMatrix, CommandBytes, SchemeBytes, SchemeWrite, MatrixRecords, MatrixBytes, MatrixWrite, RequestBytes, RequestList, Plan, Engine, Hold, Moving, Totals, Convert, Lines, Printout, Robot}
 use Rattle.tight.proofs.General.{equation}
 
 pub faults : (M : Type 1) → Faults M
@@ -8,6 +8,7 @@ faults M = record {
   Fault-number = equation (λ κs a z w p i. (p i, z.1));
   Fault-from-u8 = equation (λ κs a z w p i. (p i, z.1));
   u8-from-Fault = equation (λ κs a z w p i. (p i, z.1));
+  Fault-eq = equation (λ κs a z w p i. (p i, z.1));
 }
 
 pub rights : (M : Type 1) → Rights M
@@ -36,6 +37,18 @@ rights M = record {
   Parameter-is = equation (λ κs a z w p i. (p i, z.1));
   Parameter-is-zero = equation (λ κs a z w p i. (p i, z.1));
   Parameter-byte = equation (λ κs a z w p i. (p i, z.1));
+  Right-eq = equation (λ κs a z w p i. (p i, z.1));
+  ThingType-eq = equation (λ κs a z w p i. (p i, z.1));
+  Parameter-eq = equation (λ κs a z w p i. (p i, z.1));
+  RightSet-eq = equation (λ κs a z w p i. (p i, z.1));
+  TypeSet-eq = equation (λ κs a z w p i. (p i, z.1));
+}
+
+pub model : (M : Type 1) → Model M
+model M = record {
+  Code-eq = equation (λ κs a z w p i. (p i, z.1));
+  Refusal-eq = equation (λ κs a z w p i. (p i, z.1));
+  Reply-eq = equation (λ κs a z w p i. (p i, z.1));
 }
 
 pub accepted : (M : Type 1) → Accepted M
@@ -77,6 +90,8 @@ records M = record {
   put_front = equation (λ κs a z w p i. (tt, (p i, z.1.1)));
   write_bytes = equation (λ κs a z w p i. ((p i).0, ((p i).1, z.1.1)));
   write_record = equation (λ κs a z w p i. ((p i).0, ((p i).1, z.1.1)));
+  Record-eq = equation (λ κs a z w p i. (p i, z.1));
+  Refused-eq = equation (λ κs a z w p i. (p i, z.1));
 }
 
 pub accepted_matrix : (M : Type 1) → AcceptedMatrix M
@@ -109,6 +124,9 @@ matrix_records M = record {
   read_head = equation (λ κs a z w p i. (p i, z.1));
   read_thing = equation (λ κs a z w p i. (p i, z.1));
   read_cell = equation (λ κs a z w p i. (p i, z.1));
+  FoundHead-eq = equation (λ κs a z w p i. (p i, z.1));
+  FoundThing-eq = equation (λ κs a z w p i. (p i, z.1));
+  FoundCell-eq = equation (λ κs a z w p i. (p i, z.1));
 }
 
 pub matrix_bytes : (M : Type 1) → MatrixBytes M
@@ -129,6 +147,7 @@ request_bytes M = record {
   read_request = equation (λ κs a z w p i. (p i, z.1));
   skip_request = equation (λ κs a z w p i. (p i, z.1));
   write_request = equation (λ κs a z w p i. ((p i).0, ((p i).1, z.1.1)));
+  Request-eq = equation (λ κs a z w p i. (p i, z.1));
 }
 
 pub request_list : (M : Type 1) → RequestList M
@@ -148,6 +167,7 @@ engine M = record {
   run_list = equation (λ κs a z w p i. ((p i).0, (tt, ((p i).1, ((p i).2, (tt, ((p i).3, z.1.1.1.1.1.1)))))));
   run_quietly = equation (λ κs a z w p i. ((p i).0, (tt, ((p i).1, ((p i).2, z.1.1.1.1)))));
   request = equation (λ κs a z w p i. ((p i).0.answer, (tt, ((p i).0.things, ((p i).1, z.1.1.1.1)))));
+  Ended-eq = equation (λ κs a z w p i. (p i, z.1));
 }
 
 pub hold : (M : Type 1) → Hold M
@@ -165,6 +185,7 @@ moving M = record {
 
 pub totals : (M : Type 1) → Totals M
 totals M = record {
+  Totals-eq = equation (λ κs a z w p i. (p i, z.1));
   totals = equation (λ κs a z w p i. (p i, z.1));
 }
 

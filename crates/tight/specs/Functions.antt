@@ -3,6 +3,7 @@
 use Rattle.tight.specs.Tight.{Tight, TightAs}
 use Rattle.faults.specs.contracts as faults
 use Rattle.rights.specs.contracts as rights
+use Rattle.model.specs.contracts as model
 use Rattle.accepted.specs.contracts as accepted
 use Rattle.things.specs.contracts as things
 use Rattle.records.specs.contracts as records
@@ -29,6 +30,7 @@ pub record Faults (M : Type 1) : Type 2 where
   pub Fault-number : Tight M faults.Fault.number.ended (λ 𝓤. faults.Fault.number.clauses)
   pub Fault-from-u8 : Tight M faults.FaultFromU8.from.ended (λ 𝓤. faults.FaultFromU8.from.clauses)
   pub u8-from-Fault : Tight M faults.U8FromFault.from.ended (λ 𝓤. faults.U8FromFault.from.clauses)
+  pub Fault-eq : Tight M faults.FaultPartialEq.eq.ended (λ 𝓤. faults.FaultPartialEq.eq.clauses)
 
 pub record Rights (M : Type 1) : Type 2 where
   pub Right-partner : Tight M rights.Right.partner.ended (λ 𝓤. rights.Right.partner.clauses)
@@ -55,6 +57,16 @@ pub record Rights (M : Type 1) : Type 2 where
   pub Parameter-is : Tight M rights.ParameterNumbered.is.ended (λ 𝓤. rights.ParameterNumbered.is.clauses)
   pub Parameter-is-zero : Tight M rights.ParameterNumbered.is_zero.ended (λ 𝓤. rights.ParameterNumbered.is_zero.clauses)
   pub Parameter-byte : Tight M rights.ParameterNumbered.byte.ended (λ 𝓤. rights.ParameterNumbered.byte.clauses)
+  pub Right-eq : Tight M rights.RightPartialEq.eq.ended (λ 𝓤. rights.RightPartialEq.eq.clauses)
+  pub ThingType-eq : Tight M rights.ThingTypePartialEq.eq.ended (λ 𝓤. rights.ThingTypePartialEq.eq.clauses)
+  pub Parameter-eq : Tight M rights.ParameterPartialEq.eq.ended (λ 𝓤. rights.ParameterPartialEq.eq.clauses)
+  pub RightSet-eq : Tight M rights.RightSetPartialEq.eq.ended (λ 𝓤. rights.RightSetPartialEq.eq.clauses)
+  pub TypeSet-eq : Tight M rights.TypeSetPartialEq.eq.ended (λ 𝓤. rights.TypeSetPartialEq.eq.clauses)
+
+pub record Model (M : Type 1) : Type 2 where
+  pub Code-eq : Tight M model.CodePartialEq.eq.ended (λ 𝓤. model.CodePartialEq.eq.clauses)
+  pub Refusal-eq : Tight M model.RefusalPartialEq.eq.ended (λ 𝓤. model.RefusalPartialEq.eq.clauses)
+  pub Reply-eq : Tight M model.ReplyPartialEq.eq.ended (λ 𝓤. model.ReplyPartialEq.eq.clauses)
 
 pub record Accepted (M : Type 1) : Type 2 where
   pub group_of : Tight M accepted.group_of.ended (λ 𝓤. accepted.group_of.clauses)
@@ -91,6 +103,8 @@ pub record Records (M : Type 1) : Type 2 where
   pub put_front : Tight M records.put_front.ended (λ 𝓤. records.put_front.clauses)
   pub write_bytes : Tight M records.write_bytes.ended (λ 𝓤. records.write_bytes.clauses)
   pub write_record : Tight M records.write_record.ended (λ 𝓤. records.write_record.clauses)
+  pub Record-eq : Tight M records.RecordPartialEq.eq.ended (λ 𝓤. records.RecordPartialEq.eq.clauses)
+  pub Refused-eq : Tight M records.RefusedPartialEq.eq.ended (λ 𝓤. records.RefusedPartialEq.eq.clauses)
 
 pub record AcceptedMatrix (M : Type 1) : Type 2 where
   pub things_accepted : Tight M accepted_matrix.things_accepted.ended (λ 𝓤. accepted_matrix.things_accepted.clauses)
@@ -113,6 +127,9 @@ pub record MatrixRecords (M : Type 1) : Type 2 where
   pub read_head : Tight M matrix_records.read_head.ended (λ 𝓤. matrix_records.read_head.clauses)
   pub read_thing : Tight M matrix_records.read_thing.ended (λ 𝓤. matrix_records.read_thing.clauses)
   pub read_cell : Tight M matrix_records.read_cell.ended (λ 𝓤. matrix_records.read_cell.clauses)
+  pub FoundHead-eq : Tight M matrix_records.answers.FoundHeadPartialEq.eq.ended (λ 𝓤. matrix_records.answers.FoundHeadPartialEq.eq.clauses)
+  pub FoundThing-eq : Tight M matrix_records.answers.FoundThingPartialEq.eq.ended (λ 𝓤. matrix_records.answers.FoundThingPartialEq.eq.clauses)
+  pub FoundCell-eq : Tight M matrix_records.answers.FoundCellPartialEq.eq.ended (λ 𝓤. matrix_records.answers.FoundCellPartialEq.eq.clauses)
 
 pub record MatrixBytes (M : Type 1) : Type 2 where
   pub read_matrix : Tight M matrix_bytes.read_matrix.ended (λ 𝓤. matrix_bytes.read_matrix.clauses)
@@ -127,6 +144,7 @@ pub record RequestBytes (M : Type 1) : Type 2 where
   pub read_request : Tight M request_bytes.read_request.ended (λ 𝓤. request_bytes.read_request.clauses)
   pub skip_request : Tight M request_bytes.skip_request.ended (λ 𝓤. request_bytes.skip_request.clauses)
   pub write_request : Tight M request_bytes.write_request.ended (λ 𝓤. request_bytes.write_request.clauses)
+  pub Request-eq : Tight M request_bytes.RequestPartialEq.eq.ended (λ 𝓤. request_bytes.RequestPartialEq.eq.clauses)
 
 pub record RequestList (M : Type 1) : Type 2 where
   pub count_requests : Tight M request_list.count_requests.ended (λ 𝓤. request_list.count_requests.clauses)
@@ -140,6 +158,7 @@ pub record Engine (M : Type 1) : Type 2 where
   pub run_list : Tight M engine.run_list.ended (λ 𝓤. engine.run_list.clauses)
   pub run_quietly : Tight M engine.run_quietly.ended (λ 𝓤. engine.run_quietly.clauses)
   pub request : Tight M engine.request.ended (λ 𝓤. engine.request.clauses)
+  pub Ended-eq : Tight M engine.answers.EndedPartialEq.eq.ended (λ 𝓤. engine.answers.EndedPartialEq.eq.clauses)
 
 pub record Hold (M : Type 1) : Type 2 where
   pub mark_thing : Tight M hold.mark_thing.ended (λ 𝓤. hold.mark_thing.clauses)
@@ -152,6 +171,8 @@ pub record Moving (M : Type 1) : Type 2 where
   pub back : Tight M moving.back.ended (λ 𝓤. moving.back.clauses)
 
 pub record Totals (M : Type 1) : Type 2 where
+  pub Totals-eq : Tight M totals.answers.TotalsPartialEq.eq.ended (λ 𝓤. totals.answers.TotalsPartialEq.eq.clauses)
+  -- the last one, since it hides the crate's name
   pub totals : Tight M totals.totals.ended (λ 𝓤. totals.totals.clauses)
 
 pub record Convert (M : Type 1) : Type 2 where

@@ -531,6 +531,14 @@ fn below_robot_and_printout() -> BTreeSet<String> {
     below
 }
 
+/// Whether no `impl` by hand compares the values of this type. What a derive writes is the kit's own, and no task asks it.
+fn is_derived(path: &str) -> bool {
+    let (crate_name, structure) = path.split_once('.').unwrap();
+    let by_hand = format!("PartialEq for {}", structure.rsplit('.').next().unwrap());
+    let mut files = fs::read_dir(crates().join(crate_name).join("src")).unwrap();
+    !files.any(|file| text(file.unwrap().path()).contains(&by_hand))
+}
+
 /// The path of each public function of these crates. crates/tight has a line for each of all crates, and .ci/statements holds these lines to the source.
 fn public_functions() -> BTreeSet<String> {
     let below = below_robot_and_printout();
@@ -540,6 +548,9 @@ fn public_functions() -> BTreeSet<String> {
             .split_whitespace()
             .find_map(|word| word.strip_suffix(".ended"))?;
         let word = word.replace(['«', '»'], "");
+        if word.strip_suffix("PartialEq.eq").is_some_and(is_derived) {
+            return None;
+        }
         let mut parts: Vec<&str> = word.split('.').collect();
         // A method's module stands before its type.
         if parts.len() == 4 {
