@@ -7,8 +7,11 @@ use mathlib.Core.Path.{◌≡◌, refl, sym}
 use lib.ListN.{length}
 use Rattle.std.specs.Prelude.{Result, Ok, Err}
 use Rattle.faults.specs.Numbers.{fault_of}
+use Rattle.faults.specs.declared.Fault.{Fault}
 use Rattle.faults.specs.declared.Fault.TheVariants.{NotAccepted}
 use Rattle.model.specs.Accepted.{accepted_head}
+use Rattle.model.specs.Arrays.{no_command}
+use Rattle.model.specs.declared.Command.{Command}
 use Rattle.model.specs.declared.Head.{Head}
 use Rattle.records.specs.Bytes.{part}
 use Rattle.records.specs.Front.{record_at, in_record, on_record, on_body, against}
@@ -22,7 +25,7 @@ use Rattle.records.proofs.FrontLaws.{record_found}
 use Rattle.records.proofs.Lines.{on}
 use Rattle.records.proofs.ResultLaws.{record_back}
 use Rattle.command_bytes.specs.Read.{head, command}
-use Rattle.command_bytes.specs.Answers.{read_head, read_command}
+use Rattle.command_bytes.specs.Answers.{read_head, read_command, command_lent}
 
 -- on with the record that was found, or out with the refusal
 module _ {R : Type 0} (go : Record → R) (out : Refused → R) where
@@ -66,3 +69,29 @@ module _ (s : List ℕ) (at : ℕ) where
       go : (b : Bool) → item_of (against b (in_record s 4 (λ kind. command h) at)) ≡ cond b (item_at s at 4 (command h)) (Err (record { fault = NotAccepted; at = 0 }))
       go true = item_lines s at 4 (command h)
       go false = refl
+
+  -- the same with the lent command: it holds what was read, or zeros
+  module _ (h : Head) where
+    abbrev pub stored : Result Command Fault → (next : ℕ) → Result ℕ Refused × Command
+    stored m next = on (λ c. (Ok next, c)) (λ f. (Err (record { fault = f; at = at }), no_command)) m
+
+    abbrev pub command_stored : Result Record Refused → Result ℕ Refused × Command
+    command_stored = on_found (λ r. stored (value_of (whole (command h) (part s r.start r.len))) (r.start + r.len)) (λ r. (Err r, no_command))
+
+    pub command_lent_lines : command_lent (read_command s at h) ≡
+        cond (accepted_head h) (command_stored (record_result (record_at s at 4))) (Err (record { fault = NotAccepted; at = 0 }), no_command)
+    command_lent_lines = rw (read_command_lines h) (go (accepted_head h))
+      where
+        by : (next : ℕ) (m : Result Command Fault) → command_lent (on (λ c. Ok (c, next)) (λ f. Err (record { fault = f; at = at })) m) ≡ stored m next
+        by next (Ok c) = refl
+        by next (Err f) = refl
+
+        found : (m : Result Record Refused) → command_lent (on_found (λ r. on (λ c. Ok (c, r.start + r.len)) (λ f. Err (record { fault = f; at = at }))
+            (value_of (whole (command h) (part s r.start r.len)))) Err m) ≡ command_stored m
+        found (Ok r) = by (r.start + r.len) (value_of (whole (command h) (part s r.start r.len)))
+        found (Err r) = refl
+
+        go : (b : Bool) → command_lent (cond b (item_at s at 4 (command h)) (Err (record { fault = NotAccepted; at = 0 }))) ≡
+            cond b (command_stored (record_result (record_at s at 4))) (Err (record { fault = NotAccepted; at = 0 }), no_command)
+        go true = found (record_result (record_at s at 4))
+        go false = refl

@@ -3,6 +3,7 @@
 use Rattle.std.specs.Prelude.{ℕ, List, [], ◌∷◌, Result, Ok, Err}
 use Rattle.faults.specs.Numbers.{number_of}
 use Rattle.model.specs.Accepted.{accepted_head}
+use Rattle.model.specs.Arrays.{no_command}
 use Rattle.model.specs.declared.Command.{Command}
 use Rattle.model.specs.declared.Head.{Head}
 use Rattle.records.specs.Front.{against}
@@ -17,6 +18,11 @@ read_head bytes at = item_of (head_at bytes at)
 
 unfoldable pub read_command : List ℕ → ℕ → Head → Result (Command × ℕ) Refused
 read_command bytes at h = item_of (against (accepted_head h) (command_at bytes h at))
+
+-- the function's result, with what the lent command then holds: where it is refused, one of zeros
+abbrev pub command_lent : Result (Command × ℕ) Refused → Result ℕ Refused × Command
+command_lent (Ok (c, next)) = (Ok next, c)
+command_lent (Err r) = (Err r, no_command)
 
 -- the head's fields and the next position; or the number and the record's position
 abbrev pub of_head_at : Result (Head × ℕ) Refused → Told

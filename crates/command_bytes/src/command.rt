@@ -1,12 +1,15 @@
 // A command from its record: its three lists, and the body's end.
-ghost use Rattle.std.specs.Prelude.{◌≡◌};
+ghost use Rattle.std.specs.Prelude.{◌≡◌, ℕ, Result};
+ghost use Rattle.model.specs.declared.Command.{Command};
 ghost use Rattle.records.specs.Reading.{whole};
 ghost use Rattle.records.specs.Results.{value_of};
+ghost use Rattle.records.specs.declared.Refused.{Refused};
 ghost use Rattle.command_bytes.specs.Read.{command};
-ghost use Rattle.command_bytes.specs.Answers.{read_command};
+ghost use Rattle.command_bytes.specs.Answers.{command_lent, read_command};
 
 use crate::fields::Scope;
 use crate::lists::types_at;
+use crate::none::no_command;
 use accepted::head_accepted;
 use faults::Fault;
 use model::{Command, Head, Operations, Parameters, Tests};
@@ -36,11 +39,13 @@ fn command_of(b: &[u8], head: Head) -> Result<Command, Fault>
     })
 }
 
-// The command's record at a position, and the next position: 27 for a head that no reading gives.
-#[tactic(auto, using(crate::proofs::ItemLaws::read_command_lines, crate::proofs::ItemLaws::found_within))]
-pub fn read_command(s: &[u8], at: usize, h: Head) -> Result<(Command, usize), Refused>
-    ensures { result ≡ read_command s.now at h }
+// The command's record at a position, into the lent command, and the next position: 27 for a head that no reading gives. A refused one leaves zeros, whatever
+// was lent.
+#[tactic(auto, using(crate::proofs::ItemLaws::command_lent_lines, crate::proofs::ItemLaws::found_within))]
+pub fn read_command(s: &[u8], at: usize, h: Head, command: &mut Command) -> Result<usize, Refused>
+    ensures { ◌≡◌ {A = Result ℕ Refused × Command} (result, command.new) (command_lent (read_command s.now at h)) }
 {
+    *command = no_command();
     if !head_accepted(h) {
         return Err(Refused {
             fault: Fault::NotAccepted,
@@ -50,7 +55,10 @@ pub fn read_command(s: &[u8], at: usize, h: Head) -> Result<(Command, usize), Re
     let found = records::record_at(s, at, Kinds(4))?;
     let body = records::body(s, found.start, found.len);
     match command_of(body, h) {
-        Ok(command) => Ok((command, found.start + found.len)),
+        Ok(read) => {
+            *command = read;
+            Ok(found.start + found.len)
+        }
         Err(fault) => Err(Refused { fault, at }),
     }
 }

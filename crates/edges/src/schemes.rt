@@ -4,11 +4,12 @@ use crate::print::Line;
 use crate::values;
 use model::Scheme;
 
-// The place that the command is put at stands before the bytes; of one that is refused there is nothing.
+// The place that the command is put at stands before the bytes. The command that stood there is lent, and what the reading leaves of it, refused or not, is put
+// back.
 fn command(line: &mut Line, case: Case, s: &mut Scheme) {
-    let read = command_bytes::read_command(case.bytes.behind(1).0, case.at, s.head);
-    line.tell(read.map(|(_, next)| next));
-    let command = read.map_or(command_bytes::no_command(), |(command, _)| command);
+    let mut command = values::command_at(s, case.bytes.one_at(0) as usize);
+    let read = command_bytes::read_command(case.bytes.behind(1).0, case.at, s.head, &mut command);
+    line.tell(read);
     values::put_command(case.bytes, command, s);
 }
 

@@ -28,7 +28,7 @@ use Rattle.records.proofs.Loop.{Looped, looped_stop}
 use Rattle.records.proofs.Trip.{bind_got, check_got, got_value}
 use Rattle.records.proofs.TripRecord.{in_record_back}
 use Rattle.command_bytes.specs.Read.{head, head_at, command_at}
-use Rattle.command_bytes.specs.Answers.{read_head, read_command}
+use Rattle.command_bytes.specs.Answers.{read_head, read_command, command_lent}
 use Rattle.command_bytes.proofs.Trips.{fits_head}
 use Rattle.scheme_bytes.specs.Read.{commands, at_end, scheme, scheme_rest}
 use Rattle.scheme_bytes.specs.Answers.{as_scheme, read_scheme, scheme_result}
@@ -52,18 +52,37 @@ module _ {A : Type 0} where
   refusal_back (got x n) e = constructors_differ (cc)
   refusal_back (fault f) {r = r} e = (f, refl, let g : refused f.number f.at ≡ r = cc in sym g)
 
+-- ---- from what a reading of a command left back to its answer
+read_back : (m : Result (Command × ℕ) Refused) {c : Command} {n : ℕ} → ◌≡◌ {A = Result ℕ Refused × Command} (Ok n, c) (command_lent m) → m ≡ Ok (c, n)
+read_back (Ok (x, k)) {c} {n} e =
+    let a = ap (λ (q : Result ℕ Refused × Command). q.0) e in
+    let i : n ≡ k = cc in
+    let j : c ≡ x = ap (λ (q : Result ℕ Refused × Command). q.1) e in
+    rw (i, j)
+read_back (Err r) e = let a = ap (λ (q : Result ℕ Refused × Command). q.0) e in constructors_differ (cc)
+
+left_back : (m : Result (Command × ℕ) Refused) {c : Command} {r : Refused} → ◌≡◌ {A = Result ℕ Refused × Command} (Err r, c) (command_lent m) → m ≡ Err r
+left_back (Ok (x, k)) e = let a = ap (λ (q : Result ℕ Refused × Command). q.0) e in constructors_differ (cc)
+left_back (Err f) {r = r} e =
+    let a = ap (λ (q : Result ℕ Refused × Command). q.0) e in
+    let i : r ≡ f = cc in
+    rw i
+
 -- ---- the commands one by one, of an accepted head
 module _ (s : List ℕ) (next : ℕ) (h : Head) (ok : T (accepted_head h)) where
   is_item : read_command s next h ≡ item_of (command_at s h next)
   unfolding read_command
   is_item = rw (is_true (accepted_head h) ok)
 
-  pub command_there : {c : Command} {n : ℕ} → Ok (c, n) ≡ read_command s next h → command_at s h next ≡ got c n
-  command_there e = item_back (command_at s h next) (sym (e ∙ is_item))
+  pub command_there : {c : Command} {n : ℕ} → ◌≡◌ {A = Result ℕ Refused × Command} (Ok n, c) (command_lent (read_command s next h)) →
+      command_at s h next ≡ got c n
+  command_there e = item_back (command_at s h next) (sym is_item ∙ read_back (read_command s next h) e)
 
-  pub command_refused : {at j : ℕ} → Looped (λ (u : Unit {0}). command_at s h) (λ u c. u) h.count tt at j tt next → j < h.count → {r : Refused} →
-      Err r ≡ read_command s next h → Err r ≡ item_of (in_places (commands s h at))
-  command_refused v l e = let g = refusal_back (command_at s h next) (sym (e ∙ is_item)) in rw (looped_stop v l g.1) (ap Err g.2)
+  pub command_refused : {at j : ℕ} → Looped (λ (u : Unit {0}). command_at s h) (λ u c. u) h.count tt at j tt next → j < h.count → {r : Refused} {c : Command} →
+      ◌≡◌ {A = Result ℕ Refused × Command} (Err r, c) (command_lent (read_command s next h)) → Err r ≡ item_of (in_places (commands s h at))
+  command_refused v l e =
+      let g = refusal_back (command_at s h next) (sym is_item ∙ left_back (read_command s next h) e) in
+      rw (looped_stop v l g.1) (ap Err g.2)
 
 -- ---- the lines: the commands behind a head, and the end
 module _ (s : List ℕ) (h : Head) where

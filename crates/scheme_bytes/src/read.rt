@@ -22,7 +22,7 @@ fn read_commands(
     let mut commands = [no_command(); Scheme::PLACES];
     let mut next = at;
     for place in commands[..h.count as usize].iter_mut() {
-        (*place, next) = read_command(s, next, h)?;
+        next = read_command(s, next, h, place)?;
     }
     Ok((commands, next))
 }

@@ -102,7 +102,7 @@ accepted_matrix M = record {
 
 pub command_bytes : (M : Type 1) → CommandBytes M
 command_bytes M = record {
-  read_command = equation (λ κs a z w p i. (p i, z.1));
+  read_command = equation (λ κs a z w p i. ((p i).0, (tt, (tt, (tt, ((p i).1, z.1.1.1.1.1))))));
   read_head = equation (λ κs a z w p i. (p i, z.1));
   no_command = equation (λ κs a z w p i. (p i, z.1));
 }

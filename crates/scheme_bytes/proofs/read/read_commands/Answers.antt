@@ -29,15 +29,15 @@ loop-place-init c =
       length-take-le _ (replicate 32 c.no_command-commands.result) n,
     )
 
-pub returns-in_err-place : goal.returns-in_err-place
-returns-in_err-place c =
+pub returns-in_err-next : goal.returns-in_err-next
+returns-in_err-next c =
     let p = err_from_is_err_and c.from_residual.result c.from_residual.ensures.1 in
-    rw (p.1, p.2) (command_refused _ _ _ c.requires c.loop-place.invariant.0 (omega arith) c.in_err-place.ensures)
+    rw (p.1, p.2) (command_refused _ _ _ c.requires c.loop-place.invariant.0 (omega arith) c.in_err-next.ensures)
 
 pub loop-place-preserved : goal.loop-place-preserved
 loop-place-preserved c =
     let (v, e, l) = c.loop-place.invariant in (
-      looped_on v (omega arith) (command_there _ _ _ c.requires c.in_ok-place.ensures),
+      looped_on v (omega arith) (command_there _ _ _ c.requires c.in_ok-next.ensures),
       fill_next (λ x. x) no_command c.args.h.count v.items _ _ e v.count (omega arith),
       length-set _ _ _ ∙ l,
     )
