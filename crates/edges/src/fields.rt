@@ -15,18 +15,9 @@ fn end(line: &mut Line, answer: Result<Option<usize>, Refused>) {
     }
 }
 
-// Of no request all is 0.
 fn read_request(line: &mut Line, b: Bytes, at: usize) {
-    let read = request_bytes::read_request(b.0, at);
-    end(line, read.map(|found| found.map(|(_, next)| next)));
-    let request = match read {
-        Ok(Some((request, _))) => request,
-        _ => Request {
-            command: 0,
-            count: 0,
-            ids: [0; Request::LIMIT],
-        },
-    };
+    let mut request = Request::NONE;
+    end(line, request_bytes::read_request(b.0, at, &mut request));
     line.tell(request.command);
     line.tell(request.count);
     line.tell(sum::numbers(&request.ids));

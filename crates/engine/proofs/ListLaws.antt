@@ -34,7 +34,7 @@ use Rattle.engine.specs.Inner.Carry.{step_on}
 use Rattle.engine.specs.Inner.Run.{ended_by, ran_on}
 use Rattle.std.specs.Prelude.{None, Some, Ok, Err}
 use Rattle.records.specs.declared.Refused.{Refused}
-use Rattle.request_bytes.specs.Results.{request_result}
+use Rattle.request_bytes.specs.Results.{skip_result}
 use Rattle.request_bytes.proofs.Answered.{read_ended}
 use Rattle.request_bytes.proofs.ResultLaws.{none_back, refusal_back}
 use Rattle.request_bytes.proofs.Laws.{read_end}
@@ -162,14 +162,14 @@ module _ {s : Scheme} {first : Matrix} {bytes buffer : List ℕ} {m : Matrix} {o
   run_stop more a is h now e = rw (e, ended_same n p a.answer) (ap gives (finish _ (counting_stop r.counting more a is a.answer refl h)))
 
   -- a reading that gave no further request: the list has ended, or a record ends it that can't be read
-  pub run_end : request_result (read_request bytes p) ≡ Ok None
+  pub run_end : skip_result (read_request bytes p).answer ≡ Ok None
       → ◌≡◌ {A = Given} (Ok (record { count = n; cut = None }), m.things, m.cells, out) (gives (ran_on s first bytes buffer))
-  run_end e = let f : p ≡ length bytes = read_ended bytes p (none_back (read_request bytes p) e) in run_none (omega arith)
+  run_end e = let f : p ≡ length bytes = read_ended bytes p (none_back _ e) in run_none (omega arith)
 
-  pub run_cut : p ≤ length bytes → (x : Refused) → request_result (read_request bytes p) ≡ Err x
+  pub run_cut : p ≤ length bytes → (x : Refused) → skip_result (read_request bytes p).answer ≡ Err x
       → ◌≡◌ {A = Given} (Ok (record { count = n; cut = Some x }), m.things, m.cells, out) (gives (ran_on s first bytes buffer))
   run_cut near x e =
-      let (k, at, f, g) = refusal_back (read_request bytes p) e in
+      let (k, at, f, g) = refusal_back _ e in
       run_stop (more k at f) (read_request bytes p) refl (λ next h. let d : request_reading.Refused k at ≡ request_reading.Done next = sym f ∙ h in constructors_differ (cc)) _
       (ap (λ (y : Refused). Ok (record { count = n; cut = Some y })) g ∙ sym (ap (λ (a : RequestReading). ended_as (ended_by n a)) f))
     where

@@ -11,6 +11,7 @@ use crate::replies::put_reply;
 use crate::step::{all_accepted, step_on};
 use faults::Fault;
 use model::{Reply, Scheme, Things};
+use request_bytes::Request;
 use request_list::count_requests;
 
 // All requests of a list, on an accepted scheme and matrix; a reply that the buffer has no room for isn't stored.
@@ -20,10 +21,11 @@ fn run_all(s: &Scheme, th: &mut Things, cells: &mut [u64], bytes: &[u8], out: &m
 {
     let mut n: usize = 0;
     let mut p: usize = 0;
+    let mut q = Request::NONE;
     // A loop, since a reading gives the next one's position.
     loop {
-        match request_bytes::read_request(bytes, p) {
-            Ok(Some((q, next))) => {
+        match request_bytes::read_request(bytes, p, &mut q) {
+            Ok(Some(next)) => {
                 let told = step_on(s, th, cells, q.command, &q.ids[..q.count as usize]);
                 put_reply(out, n, told);
                 n += 1;

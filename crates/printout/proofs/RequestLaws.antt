@@ -25,7 +25,7 @@ use Rattle.lines.specs.Put.{largest, put_text}
 use Rattle.lines.proofs.PutLaws.{Left, left_all, left_on, left_last, left_none}
 use Rattle.lines.proofs.LineLaws.{few_in_line}
 use Rattle.request_bytes.specs.Read.{read_request}
-use Rattle.request_bytes.specs.Results.{request_result}
+use Rattle.request_bytes.specs.Results.{skip_result}
 use Rattle.request_bytes.specs.Outcome.RequestAnswer.{RequestAnswer}
 use Rattle.request_bytes.specs.Outcome.RequestReading.{Done, End, Refused}
 use Rattle.request_bytes.proofs.Answered.{read_ended}
@@ -115,18 +115,18 @@ module _ {columns : Columns} {bytes replies out : List ℕ} {at : ℕ} {now : Li
   abbrev leaves : Listed → List ℕ
   leaves l = list_text columns n l (replies_in behind)
 
-  pub printing_end : request_result (read_request bytes p) ≡ Ok None → (to, now) ≡ put_text out at (list_text columns 0 (read_list bytes) (replies_in replies))
+  pub printing_end : skip_result (read_request bytes p).answer ≡ Ok None → (to, now) ≡ put_text out at (list_text columns 0 (read_list bytes) (replies_in replies))
   unfolding request_lines
   printing_end e =
-      let f : p ≡ length bytes = read_ended bytes p (none_back (read_request bytes p) e) in
+      let f : p ≡ length bytes = read_ended bytes p (none_back _ e) in
       left_none i.left (ap leaves (counting_none i.counting (omega arith)))
 
-  pub printing_cut : (x : Refusal) → request_result (read_request bytes p) ≡ Err x → {q : ℕ} {new : List ℕ}
+  pub printing_cut : (x : Refusal) → skip_result (read_request bytes p).answer ≡ Err x → {q : ℕ} {new : List ℕ}
       → ◌≡◌ {A = ℕ × List ℕ} (q, new) (put_text now to (bad_line x.at (number_of x.fault)))
       → (q, new) ≡ put_text out at (list_text columns 0 (read_list bytes) (replies_in replies))
   unfolding request_lines
   printing_cut x e b =
-      let (k, q, f, g) = refusal_back (read_request bytes p) e in
+      let (k, q, f, g) = refusal_back _ e in
       let stops = counting_stop i.counting (more k q f) (read_request bytes p) refl (Refused k q) (sym f) (λ next d. constructors_differ (cc)) in
       left_last i.left _ b (ap leaves stops ∙ sym (refusal_line k q g))
     where

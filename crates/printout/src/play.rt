@@ -12,6 +12,7 @@ ghost use Rattle.printout.specs.Inner.Ending.{answer_line, list_text, with_bad};
 use crate::text::{Columns, put_bad, put_end, put_heading, put_request};
 use model::{Reply, Scheme, Things};
 use records::Refused;
+use request_bytes::Request;
 
 // Of a longer file only so many bytes are the input.
 const LONGEST: usize = 65536;
@@ -56,9 +57,10 @@ fn put_requests(out: &mut [u8], at: usize, columns: Columns, bytes: &[u8], repli
     let mut p: usize = 0;
     let mut to = at;
     let mut left = replies;
+    let mut q = Request::NONE;
     loop {
-        match request_bytes::read_request(bytes, p) {
-            Ok(Some((q, next))) => {
+        match request_bytes::read_request(bytes, p, &mut q) {
+            Ok(Some(next)) => {
                 (to, left) = put_answer(out, to, columns, n, q.command, left);
                 n += 1;
                 p = next;

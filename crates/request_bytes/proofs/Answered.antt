@@ -1,19 +1,21 @@
 -- From the answer of a reading or a writing of a request back to what stands there. Assumes nothing.
-use Prim.Native.Nat.{ℕ, ◌+◌, ◌≤◌}
+use Prim.Native.Nat.{ℕ, zero, suc, ◌+◌, ◌≤◌}
 use native.Mathlib.Omega.{arith}
 use mathlib.Core.Bool.{Bool, true, false, cond}
-use mathlib.Core.List.{List}
-use mathlib.Core.Path.{◌≡◌, refl, ◌∙◌}
+use mathlib.Core.List.{List, ◌∷◌}
+use mathlib.Core.Path.{◌≡◌, refl, sym, ap, ◌∙◌}
 use lib.Dec.{leb, eqb, leb→le}
 use lib.ListN.{length, length-append}
 use borrow.Author.Tests.{eqb-true}
 use Rattle.records.specs.Bytes.{number2, part}
-use Rattle.records.specs.Reading.{Read, got, fault, ◌>>=◌, done, byte, field, whole}
+use Rattle.records.specs.Reading.{Read, got, fault, ◌>>=◌, done, byte, number, field, whole}
 use Rattle.records.specs.Front.{Refusal, allowed, record_at, on_body, on_record, in_record}
 use Rattle.records.specs.Outcome.RecordAnswer.{RecordAnswer}
 use Rattle.records.specs.Outcome.RecordAnswer as record_answer
 use Rattle.records.specs.Outcome.Writing.{Writing}
 use Rattle.records.specs.Outcome.Writing as writing
+use Rattle.records.specs.Results.{value_of}
+use Rattle.records.proofs.FieldLaws.{field_between}
 use Rattle.records.proofs.Trip.{got_value, bind_got}
 use Rattle.records.proofs.TripRecord.{in_record_back}
 use Rattle.records.proofs.Wrote.{Wrote, wrote}
@@ -83,22 +85,34 @@ pub record Taken (s : List ℕ) (at next : ℕ) (q : Request) : Type 0 where
   pub on : at + 4 ≤ next
   pub inside : next ≤ length s
   pub held : q.count ≤ length q.ids
+  -- where the request was lent, nothing else tells how long its array is
+  pub few : q.count ≤ 8
 
-ids_held : (command : ℕ) (ids : List ℕ) → (request_of command ids).count ≤ length (request_of command ids).ids
+ids_held : (command : ℕ) (ids : List ℕ) → length ids ≤ 8
+    → ((request_of command ids).count ≤ length (request_of command ids).ids) × ((request_of command ids).count ≤ 8)
 unfolding request_of
-ids_held command ids = simp length-append (omega arith)
+ids_held command ids h = (simp length-append (omega arith), h)
 
-body_held : (b : List ℕ) (q : Request) (t : List ℕ) → request b ≡ got q t → q.count ≤ length q.ids
+ids_long : (n : ℕ) (b : List ℕ) {ids t : List ℕ} → ids_in n b ≡ got ids t → length ids ≡ n
+ids_long zero b e = ap length (sym (got_value e))
+ids_long (suc n) b e =
+    let (x, b₁, f, g) = bind_got (number 2 b) (λ x. ids_in n >>= λ xs. done (x ∷ xs)) e in
+    let (xs, b₂, h, i) = bind_got (ids_in n b₁) (λ xs. done (x ∷ xs)) g in
+    ap length (sym (got_value i)) ∙ ap suc (ids_long n b₁ h)
+
+body_held : (b : List ℕ) (q : Request) (t : List ℕ) → request b ≡ got q t → (q.count ≤ length q.ids) × (q.count ≤ 8)
 unfolding request
 body_held b q t e =
     let (command, b₁, c, d) = bind_got (byte b) (λ command. field 0 9 4 >>= λ count. ids_in count >>= λ ids. done (request_of command ids)) e in
     let (count, b₂, f, g) = bind_got (field 0 9 4 b₁) (λ count. ids_in count >>= λ ids. done (request_of command ids)) d in
     let (ids, b₃, i, j) = bind_got (ids_in count b₂) (λ ids. done (request_of command ids)) g in
-    rw (got_value {a = request_of command ids} {i = b₃} j) at (ids_held command ids)
+    let below = field_between b₁ 0 9 4 count (ap value_of f) in
+    rw (got_value {a = request_of command ids} {i = b₃} j) at (ids_held command ids (omega (arith, below.1, ids_long count b₂ i)))
 
 pub taken : (s : List ℕ) (at : ℕ) (a : RequestAnswer) → a ≡ read_request s at → (next : ℕ) → a.answer ≡ Done next → Taken s at next a.request
 unfolding request_at
 taken s at a is next on =
     let e = read_done s at next (rw is at on) in
     let (kind, start, len, f, d, n) = in_record_back s 64 (λ kind. request) at e in
-    record { on = omega (arith, f.behind); inside = omega (arith, f.inside); held = rw is (body_held _ _ _ d) }
+    let (held, few) = body_held _ _ _ d in
+    record { on = omega (arith, f.behind); inside = omega (arith, f.inside); held = rw is held; few = rw is few }

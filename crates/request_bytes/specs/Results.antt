@@ -1,4 +1,4 @@
--- What the functions give for the reading of a request: the request with the next position, None at the list's end, or the fault with the record's position.
+-- What the functions give for the reading of a request: the next position, None at the list's end, or the fault with the record's position.
 -- Assumes nothing.
 use Rattle.std.specs.Prelude.{ℕ, Result, Ok, Err, Option, Some, None}
 use Rattle.records.specs.Results.{refused}
@@ -8,18 +8,12 @@ use Rattle.request_bytes.specs.Outcome.RequestReading.{RequestReading}
 use Rattle.request_bytes.specs.Outcome.RequestReading.{Done, End, Refused}
 use Rattle.request_bytes.specs.Outcome.RequestAnswer.{RequestAnswer}
 
--- a reading with what was read there, which counts only where there is a next position
-module _ {A : Type 0} where
-  abbrev pub read_result : A → RequestReading → Result (Option (A × ℕ)) Refusal
-  read_result a (Done next) = Ok (Some (a, next))
-  read_result a End = Ok None
-  read_result a (Refused k at) = Err (refused k at)
-
-abbrev pub request_result : RequestAnswer → Result (Option (Request × ℕ)) Refusal
-request_result a = read_result a.request a.answer
-
 -- only the next position
 abbrev pub skip_result : RequestReading → Result (Option ℕ) Refusal
 skip_result (Done next) = Ok (Some next)
 skip_result End = Ok None
 skip_result (Refused k at) = Err (refused k at)
+
+-- with what the lent request then holds: at the end, and where it is refused, one of zeros
+abbrev pub request_lent : RequestAnswer → Result (Option ℕ) Refusal × Request
+request_lent a = (skip_result a.answer, a.request)

@@ -17,4 +17,10 @@ pub struct Request {
 
 impl Request {
     pub const LIMIT: usize = 8;
+    // All zeros: what stands where no request was read.
+    pub const NONE: Request = Request {
+        command: 0,
+        count: 0,
+        ids: [0; Request::LIMIT],
+    };
 }

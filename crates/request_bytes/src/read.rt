@@ -1,9 +1,11 @@
 // A request's record at a position of a list: read, or only skipped.
-ghost use Rattle.std.specs.Prelude.{◌≡◌, ◌≤◌, drop};
+ghost use Rattle.std.specs.Prelude.{◌≡◌, ◌≤◌, ℕ, Option, Result, drop};
 ghost use Rattle.records.specs.Reading.{whole, field};
 ghost use Rattle.records.specs.Results.{value_of};
+ghost use Rattle.records.specs.declared.Refused.{Refused};
 ghost use Rattle.request_bytes.specs.Read.{ids_in, request, read_request};
-ghost use Rattle.request_bytes.specs.Results.{request_result, skip_result};
+ghost use Rattle.request_bytes.specs.Results.{request_lent, skip_result};
+ghost use Rattle.request_bytes.specs.declared.Request.{Request};
 ghost use Rattle.request_bytes.specs.Inner.Body.{ids_result, end_result};
 
 use crate::Request;
@@ -46,19 +48,21 @@ fn request_of(b: &[u8]) -> Result<Request, Fault>
     })
 }
 
-// The request's record at a position of a list with the next position, or None at the list's end.
-pub fn read_request(s: &[u8], at: usize) -> Result<Option<(Request, usize)>, Refused>
-    ensures { result ≡ request_result (read_request s.now at) }
+// The request's record at a position of a list, into the lent request, and the next position; or None at the list's end. There, and where it is refused,
+// the request is left one of zeros.
+pub fn read_request(s: &[u8], at: usize, request: &mut Request) -> Result<Option<usize>, Refused>
+    ensures { ◌≡◌ {A = Result (Option ℕ) Refused × Request} (result, request.new) (request_lent (read_request s.now at)) }
 {
+    *request = Request::NONE;
     if at == s.len() {
         return Ok(None);
     }
     let found = records::record_at(s, at, Kinds(64))?;
-    let request = request_of(records::body(s, found.start, found.len)).map_err(|fault| Refused {
+    *request = request_of(records::body(s, found.start, found.len)).map_err(|fault| Refused {
         fault,
         at,
     })?;
-    Ok(Some((request, found.start + found.len)))
+    Ok(Some(found.start + found.len))
 }
 
 // Whether a request's body ends with its last id, and nothing else: no id is read.

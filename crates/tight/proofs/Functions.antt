@@ -144,7 +144,7 @@ matrix_write M = record {
 
 pub request_bytes : (M : Type 1) → RequestBytes M
 request_bytes M = record {
-  read_request = equation (λ κs a z w p i. (p i, z.1));
+  read_request = equation (λ κs a z w p i. ((p i).0, (tt, (tt, ((p i).1, z.1.1.1.1)))));
   skip_request = equation (λ κs a z w p i. (p i, z.1));
   write_request = equation (λ κs a z w p i. ((p i).0, ((p i).1, z.1.1)));
   Request-eq = equation (λ κs a z w p i. (p i, z.1));

@@ -5,8 +5,8 @@ use lib.ListN.{length}
 use Rattle.printout.proofs.RequestLaws.{Printing}
 use Rattle.printout.proofs.play.put_requests.Given as goal
 
-abbrev pub invariant-loop-q : goal.invariant-loop-q
-invariant-loop-q l = Printing l.columns l.bytes l.replies l.initial.out l.at l.out l.n l.p l.to l.left
+abbrev pub invariant-loop-next : goal.invariant-loop-next
+invariant-loop-next l = Printing l.columns l.bytes l.replies l.initial.out l.at l.out l.n l.p l.to l.left
 
-abbrev pub decreases-loop-q : goal.decreases-loop-q
-decreases-loop-q l = length l.bytes - l.p
+abbrev pub decreases-loop-next : goal.decreases-loop-next
+decreases-loop-next l = length l.bytes - l.p

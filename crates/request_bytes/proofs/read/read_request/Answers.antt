@@ -7,22 +7,25 @@ use Rattle.records.proofs.FieldLaws.{value_back, fault_back}
 use Rattle.records.proofs.FrontLaws.{record_found}
 use Rattle.records.proofs.ResultLaws.{record_back}
 use Rattle.records.specs.Reading.{whole}
-use Rattle.request_bytes.specs.Read.{request}
-use Rattle.request_bytes.specs.Results.{request_result}
+use Rattle.request_bytes.specs.Read.{request, request_of, no_request}
+use Rattle.request_bytes.specs.Results.{request_lent}
 use Rattle.request_bytes.proofs.Laws.{read_end, read_refused, read_fault, read_done}
 use Rattle.request_bytes.proofs.Mapped.{erred, passed}
 use Rattle.request_bytes.proofs.read.read_request.Goals as goal
 
 pub returns-then-at-s : goal.returns-then-at-s
-returns-then-at-s c = ap request_result (read_end _ _ c.if-at-s.true)
+unfolding no_request request_of
+returns-then-at-s c = ap request_lent (read_end _ _ c.if-at-s.true)
 
 pub returns-in_err-found : goal.returns-in_err-found
+unfolding no_request request_of
 returns-in_err-found c =
     let p = err_from_is_err_and c.from_residual.result c.from_residual.ensures.1 in
     let (k, q, e, f) = read_refused _ _ c.if-at-s.false (sym c.in_err-found.ensures) in
     rw (p.1, p.2, e, ← f)
 
 pub returns-in_err-request : goal.returns-in_err-request
+unfolding no_request request_of
 returns-in_err-request c =
     let p = err_from_is_err_and c.from_residual-in_err-request.result c.from_residual-in_err-request.ensures.1 in
     let (f, d, m) = erred _ _ c.map_err.ensures.cases c.in_err-request.was in
@@ -37,4 +40,4 @@ pub returns : goal.returns
 returns c =
     let f = passed _ _ c.map_err.ensures.cases c.in_ok-request.was in
     let (t, e) = value_back _ (sym c.request_of.ensures ∙ f) in
-    ap request_result (read_done _ _ c.if-at-s.false _ (sym c.in_ok-found.ensures) _ t (sym (ap (whole request) c.body.ensures) ∙ e))
+    ap request_lent (read_done _ _ c.if-at-s.false _ (sym c.in_ok-found.ensures) _ t (sym (ap (whole request) c.body.ensures) ∙ e))
