@@ -15,8 +15,13 @@ fn end(line: &mut Line, answer: Result<Option<usize>, Refused>) {
     }
 }
 
+// The lent one isn't of zeros, so that what the end and a refusal leave shows.
 fn read_request(line: &mut Line, b: Bytes, at: usize) {
-    let mut request = Request::NONE;
+    let mut request = Request {
+        command: u8::MAX,
+        count: u8::MAX,
+        ids: [u16::MAX; Request::LIMIT],
+    };
     end(line, request_bytes::read_request(b.0, at, &mut request));
     line.tell(request.command);
     line.tell(request.count);
