@@ -50,14 +50,14 @@ fn run(line: &mut Line, case: Case, lent: &mut Lent) {
 
 // What the cases share: a scheme and a matrix, with more cells than one has, and a buffer. The bytes of it that a case is lent hold the pattern.
 #[derive(Drop)]
-struct Shared {
+struct Shared<'a> {
     scheme: Scheme,
     things: Things,
-    cells: Vec<u64>,
-    space: Vec<u8>,
+    cells: &'a mut [u64],
+    space: &'a mut [u8],
 }
 
-impl Shared {
+impl Shared<'_> {
     // Then puts the sum of the matrix afterwards.
     fn carry_out(&mut self, line: &mut Line, case: Case) {
         let room = case.room.min(self.space.len());
@@ -70,7 +70,7 @@ impl Shared {
         };
         pattern::bytes(lent.out);
         run(line, case, &mut lent);
-        line.tell(sum::matrix(&self.things, &self.cells));
+        line.tell(sum::matrix(&self.things, self.cells));
     }
 }
 
@@ -79,7 +79,7 @@ fn run_all(
     input: &mut Stdin,
     output: &Stdout,
     buffer: &mut [u8],
-    shared: &mut Shared,
+    shared: &mut Shared<'_>,
 ) -> Result<()> {
     let mut line = Line::empty();
     for _ in 0..65536 {
@@ -94,12 +94,14 @@ fn run_all(
 }
 
 fn main(rt: HostRuntime) -> Result<()> {
-    let mut buffer = vec![in rt.alloc(); 0; Case::LONGEST]?;
+    let mut buffer = [0; Case::LONGEST];
+    let mut cells = [0; 2400];
+    let mut space = [0; 65600];
     let mut shared = Shared {
         scheme: scheme_bytes::no_scheme(),
         things: things::no_things(),
-        cells: vec![in rt.alloc(); 0; 2400]?,
-        space: vec![in rt.alloc(); 0; 65600]?,
+        cells: &mut cells,
+        space: &mut space,
     };
     run_all(&mut rt.stdin(), &rt.stdout(), &mut buffer, &mut shared)
 }

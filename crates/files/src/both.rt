@@ -1,19 +1,19 @@
 // Two files written, or neither.
-use crate::read::{LONGEST, read};
+use crate::read::{LONGEST, MOST_READ, read};
 use crate::told::{Told, tell};
 use crate::write::{Output, remove};
 use std::fs::File;
 use std::io;
 
 // What had the name before, where it was short enough to be kept.
-fn put_back(rt: &HostRuntime, path: &str, was: io::Result<Option<Vec<u8>>>) -> Result<(), Told> {
+fn put_back(rt: &HostRuntime, path: &str, was: io::Result<Option<&[u8]>>) -> Result<(), Told> {
     match was {
         Ok(None) => {
             remove(rt, path);
             Ok(())
         }
         Ok(Some(bytes)) if bytes.len() <= LONGEST => {
-            Output::new(rt, path.as_bytes(), bytes.as_slice())?.write(rt)
+            Output::new(rt, path.as_bytes(), bytes)?.write(rt)
         }
         _ => Err(tell(
             rt,
@@ -28,7 +28,7 @@ fn rename_two(
     rt: &HostRuntime,
     first: &Output<'_>,
     second: &Output<'_>,
-    was: io::Result<Option<Vec<u8>>>,
+    was: io::Result<Option<&[u8]>>,
 ) -> Result<(), Told> {
     first.rename_new(rt).inspect_err(|_| second.remove_new(rt))?;
     second.rename_new(rt).inspect_err(|_| {
@@ -47,7 +47,8 @@ pub fn write_two(rt: &HostRuntime, first: &Output<'_>, second: &Output<'_>) -> R
     second.check_place(rt)?;
     first.remove_new(rt);
     second.remove_new(rt);
-    let was = read(rt, first.path, LONGEST);
+    let mut room = [0; MOST_READ];
+    let was = read(rt, first.path, &mut room);
     write_both_new(rt, first, second)?;
     // The first came to be when the second was written under its name with `.new`: then they are one file, however it was spelt.
     if matches!(was, Ok(None)) && File::open(rt, first.path).is_ok() {

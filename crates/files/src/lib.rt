@@ -10,6 +10,6 @@ mod write;
 
 pub use both::write_two;
 pub use names::text_of;
-pub use read::{LONGEST, read_file};
+pub use read::{LONGEST, MOST_READ, read_file};
 pub use told::{Told, tell, tell_error};
 pub use write::Output;

@@ -23,8 +23,13 @@ fn words_of(shown: &str) -> &str {
 
 // What failed, as the caller names it, and the system's reason.
 pub fn tell_error(rt: &HostRuntime, name: &[u8], error: Error) -> Told {
-    match format!(in rt.alloc(); "{error}") {
-        Ok(shown) => tell(rt, name, words_of(shown.as_str())),
-        Err(_) => tell(rt, name, "out of memory"),
-    }
+    let to = rt.stderr();
+    let _ = to.write_all(name);
+    let _ = to.write_all(b": ");
+    let _ = match format!(in rt.alloc(); "{error}") {
+        Ok(shown) => to.write_all(words_of(shown.as_str()).as_bytes()),
+        Err(_) => to.write_all(b"out of memory"),
+    };
+    let _ = to.write_all(b"\n");
+    Told
 }

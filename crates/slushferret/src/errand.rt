@@ -31,7 +31,7 @@ pub(crate) enum Errand<'a> {
 }
 
 impl<'a> Errand<'a> {
-    pub(crate) fn new(tool: &'a [u8], files: &'a [Vec<u8>]) -> Result<Errand<'a>, WrongUse<'a>> {
+    pub(crate) fn new(tool: &'a [u8], files: &'a [&'a [u8]]) -> Result<Errand<'a>, WrongUse<'a>> {
         Ok(match (tool, files) {
             (b"check", [scheme]) => Errand::Check {
                 scheme,

@@ -2,8 +2,7 @@
 use crate::said::say;
 use crate::wrong_use::WrongUse;
 use faults::Fault;
-use files::{Told, tell};
-use std::alloc::AllocError;
+use files::Told;
 use std::fmt;
 use std::process::ExitCode;
 
@@ -37,7 +36,6 @@ pub(crate) enum Failure<'a> {
     // A list that ended with `bad`, as its answers say.
     BadList,
     WrongUse(WrongUse<'a>),
-    OutOfMemory,
 }
 
 impl Failure<'_> {
@@ -55,9 +53,6 @@ impl Failure<'_> {
                 wrong.tell(rt);
                 return ExitCode::from(2);
             }
-            Failure::OutOfMemory => {
-                tell(rt, b"slushferret", "out of memory");
-            }
         }
         ExitCode::FAILURE
     }
@@ -72,11 +67,5 @@ impl From<Told> for Failure<'_> {
 impl<'a> From<WrongUse<'a>> for Failure<'a> {
     fn from(wrong: WrongUse<'a>) -> Self {
         Failure::WrongUse(wrong)
-    }
-}
-
-impl From<AllocError> for Failure<'_> {
-    fn from(_error: AllocError) -> Self {
-        Failure::OutOfMemory
     }
 }

@@ -18,20 +18,19 @@ mod words;
 mod wrong_use;
 
 use crate::failure::Failure;
+use crate::words::{MOST, Word};
 use std::process::ExitCode;
 
 // Does what the words ask for.
-fn run<'a>(rt: &HostRuntime, words: &'a [Vec<u8>]) -> Result<(), Failure<'a>> {
+fn run<'a>(rt: &HostRuntime, words: &'a [&'a [u8]]) -> Result<(), Failure<'a>> {
     let errand = words::errand_of(words)?;
     errand.carry_out(rt)
 }
 
 fn main(rt: HostRuntime) -> ExitCode {
-    let words = match words::words(&rt) {
-        Ok(words) => words,
-        Err(error) => return Failure::from(error).end(&rt),
-    };
-    match run(&rt, &words) {
+    let mut rooms = [Word::NONE; MOST];
+    let (words, count) = words::words(&rt, &mut rooms);
+    match run(&rt, &words[..count.min(MOST)]) {
         Ok(()) => ExitCode::SUCCESS,
         Err(failure) => failure.end(&rt),
     }

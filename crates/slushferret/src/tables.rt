@@ -3,22 +3,23 @@ use crate::failure::{Failure, Refusal};
 use crate::input::Input;
 use crate::report::{AtFault, Report};
 use faults::Fault;
-use files::{LONGEST, Told};
+use files::Told;
 
-#[derive(Drop)]
-pub(crate) struct Tables<'a> {
-    pub(crate) scheme: Input<'a>,
-    pub(crate) matrix: Input<'a>,
+#[derive(Clone, Copy)]
+pub(crate) struct Tables<'a, 'b> {
+    pub(crate) scheme: Input<'a, 'b>,
+    pub(crate) matrix: Input<'a, 'b>,
 }
 
-impl<'a> Tables<'a> {
+impl<'a, 'b> Tables<'a, 'b> {
+    // Each by its word, with the room that it is read into.
     pub(crate) fn load(
         rt: &HostRuntime,
-        scheme: &'a [u8],
-        matrix: &'a [u8],
-    ) -> Result<Tables<'a>, Told> {
-        let scheme = Input::load(rt, scheme)?;
-        let matrix = Input::load(rt, matrix)?;
+        (scheme, scheme_room): (&'a [u8], &'b mut [u8]),
+        (matrix, matrix_room): (&'a [u8], &'b mut [u8]),
+    ) -> Result<Tables<'a, 'b>, Told> {
+        let scheme = Input::load(rt, scheme, scheme_room)?;
+        let matrix = Input::load(rt, matrix, matrix_room)?;
         Ok(Tables { scheme, matrix })
     }
 
@@ -31,28 +32,21 @@ impl<'a> Tables<'a> {
         file.refused(fault, report.position)
     }
 
-    // What a function of the robots' library writes, which is given both files, room for the largest file, and a report. It is called in a closure: by
-    // its name alone a function of another crate can't be passed, since the toolchain doesn't find its contract.
-    pub(crate) fn made_by<F: FnOnce(&[u8], &[u8], &mut [u8], &mut [usize]) -> u8>(
+    // What a function of the robots' library writes, which is given both files, a lent room, and a report. It is called in a closure: by its name alone
+    // a function of another crate can't be passed, since the toolchain doesn't find its contract.
+    pub(crate) fn made_by<'c, F: FnOnce(&[u8], &[u8], &mut [u8], &mut [usize]) -> u8>(
         &self,
-        rt: &HostRuntime,
+        room: &'c mut [u8],
         call: F,
-    ) -> Result<(Vec<u8>, Report), Failure<'a>>
+    ) -> Result<(&'c [u8], Report), Failure<'a>>
         requires { F.IsAlwaysCallable call }
     {
-        let mut out = vec![in rt.alloc(); 0; LONGEST]?;
         let mut report = [0; 5];
-        let number = call(
-            &self.scheme.bytes,
-            &self.matrix.bytes,
-            &mut out,
-            &mut report,
-        );
+        let number = call(self.scheme.bytes, self.matrix.bytes, room, &mut report);
         let report = Report::from(report);
         if number != 0 {
             return Err(Failure::NothingWritten(self.refused(Fault::from(number), report)));
         }
-        out.truncate(report.written);
-        Ok((out, report))
+        Ok((records::body(room, 0, report.written), report))
     }
 }

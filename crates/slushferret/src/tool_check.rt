@@ -2,12 +2,13 @@
 use crate::failure::{Failure, Refusal};
 use crate::input::Input;
 use crate::said::say;
+use files::MOST_READ;
 use model::{Head, Scheme, Things};
 use totals::Totals;
 
-fn check_scheme<'a>(rt: &HostRuntime, scheme: &Input<'a>) -> Result<Scheme, Failure<'a>> {
+fn check_scheme<'a>(rt: &HostRuntime, scheme: Input<'a, '_>) -> Result<Scheme, Failure<'a>> {
     let mut s = scheme_bytes::no_scheme();
-    if let Err(refused) = scheme_bytes::read_scheme(&scheme.bytes, &mut s) {
+    if let Err(refused) = scheme_bytes::read_scheme(scheme.bytes, &mut s) {
         return Err(Failure::Refused(scheme.refused_at(refused)));
     }
     let name = scheme.name;
@@ -24,16 +25,20 @@ fn check_scheme<'a>(rt: &HostRuntime, scheme: &Input<'a>) -> Result<Scheme, Fail
     Ok(s)
 }
 
-fn totals_of<'a>(s: Scheme, matrix: &Input<'a>) -> Result<Totals, Refusal<'a>> {
+fn totals_of<'a>(s: Scheme, matrix: Input<'a, '_>) -> Result<Totals, Refusal<'a>> {
     let mut th = things::no_things();
     let mut cells = [0; Things::CELLS];
-    if let Err(refused) = matrix_bytes::read_matrix(&matrix.bytes, s, &mut th, &mut cells) {
+    if let Err(refused) = matrix_bytes::read_matrix(matrix.bytes, s, &mut th, &mut cells) {
         return Err(matrix.refused_at(refused));
     }
     totals::totals(s, th, &cells).map_err(|fault| matrix.refused(fault, 0))
 }
 
-fn check_matrix<'a>(rt: &HostRuntime, s: Scheme, matrix: &Input<'a>) -> Result<(), Failure<'a>> {
+fn check_matrix<'a>(
+    rt: &HostRuntime,
+    s: Scheme,
+    matrix: Input<'a, '_>,
+) -> Result<(), Failure<'a>> {
     let Totals {
         things,
         cells,
@@ -53,11 +58,15 @@ pub(crate) fn check<'a>(
     scheme: &'a [u8],
     matrix: Option<&'a [u8]>,
 ) -> Result<(), Failure<'a>> {
-    let scheme = Input::load(rt, scheme)?;
-    let matrix = matrix.map(|matrix| Input::load(rt, matrix)).transpose()?;
-    let s = check_scheme(rt, &scheme)?;
+    let mut scheme_room = [0; MOST_READ];
+    let mut matrix_room = [0; MOST_READ];
+    let scheme = Input::load(rt, scheme, &mut scheme_room)?;
+    let matrix = matrix
+        .map(|matrix| Input::load(rt, matrix, &mut matrix_room))
+        .transpose()?;
+    let s = check_scheme(rt, scheme)?;
     match matrix {
-        Some(matrix) => check_matrix(rt, s, &matrix),
+        Some(matrix) => check_matrix(rt, s, matrix),
         None => Ok(()),
     }
 }

@@ -3,6 +3,7 @@ use crate::failure::Failure;
 use crate::output::write_one;
 use crate::tables::Tables;
 use crate::wrong_use::WrongUse;
+use files::{LONGEST, MOST_READ};
 
 // The words that both are given.
 #[derive(Clone, Copy, Debug, PartialEq, Eq)]
@@ -26,11 +27,18 @@ fn mark<'a, F: FnOnce(&[u8], &[u8], u16, &mut [u8], &mut [usize]) -> u8>(
     requires { F.IsAlwaysCallable call }
 {
     let id = id_of(words.id)?;
-    let tables = Tables::load(rt, words.scheme, words.matrix)?;
-    let (after, _) = tables.made_by(rt, |scheme, matrix, after, report| {
+    let mut scheme_room = [0; MOST_READ];
+    let mut matrix_room = [0; MOST_READ];
+    let tables = Tables::load(
+        rt,
+        (words.scheme, &mut scheme_room),
+        (words.matrix, &mut matrix_room),
+    )?;
+    let mut room = [0; LONGEST];
+    let (after, _) = tables.made_by(&mut room, |scheme, matrix, after, report| {
         call(scheme, matrix, id, after, report)
     })?;
-    Ok(write_one(rt, words.out, &after)?)
+    Ok(write_one(rt, words.out, after)?)
 }
 
 pub(crate) fn hold<'a>(rt: &HostRuntime, words: Marked<'a>) -> Result<(), Failure<'a>> {

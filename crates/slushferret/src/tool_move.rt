@@ -2,6 +2,7 @@
 use crate::failure::Failure;
 use crate::output::write_one;
 use crate::tables::Tables;
+use files::{LONGEST, MOST_READ};
 
 // The words that both are given.
 #[derive(Clone, Copy, Debug, PartialEq, Eq)]
@@ -19,9 +20,16 @@ fn move_image<'a, F: FnOnce(&[u8], &[u8], &mut [u8], &mut [usize]) -> u8>(
 ) -> Result<(), Failure<'a>>
     requires { F.IsAlwaysCallable call }
 {
-    let tables = Tables::load(rt, words.scheme, words.image)?;
-    let (after, _) = tables.made_by(rt, call)?;
-    Ok(write_one(rt, words.out, &after)?)
+    let mut scheme_room = [0; MOST_READ];
+    let mut image_room = [0; MOST_READ];
+    let tables = Tables::load(
+        rt,
+        (words.scheme, &mut scheme_room),
+        (words.image, &mut image_room),
+    )?;
+    let mut room = [0; LONGEST];
+    let (after, _) = tables.made_by(&mut room, call)?;
+    Ok(write_one(rt, words.out, after)?)
 }
 
 pub(crate) fn forward<'a>(rt: &HostRuntime, words: Moved<'a>) -> Result<(), Failure<'a>> {

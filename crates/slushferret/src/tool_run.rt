@@ -4,7 +4,7 @@ use crate::input::Input;
 use crate::output::write_one;
 use crate::said::say_lines;
 use crate::tables::Tables;
-use files::{LONGEST, Told};
+use files::{LONGEST, MOST_READ, Told};
 
 // Room for the largest text: that of 10,922 requests is shorter.
 const ROOM: usize = 262144;
@@ -23,14 +23,18 @@ pub(crate) fn run<'a>(
     requests: &'a [u8],
     out: &'a [u8],
 ) -> Result<(), Failure<'a>> {
-    let tables = Tables::load(rt, scheme, matrix)?;
-    let requests = Input::load(rt, requests)?;
-    let mut results = vec![in rt.alloc(); 0; LONGEST]?;
-    let (after, report) = tables.made_by(rt, |scheme, matrix, out, report| {
-        robot::slushferret_run(scheme, matrix, &requests.bytes, &mut results, out, report)
+    let mut scheme_room = [0; MOST_READ];
+    let mut matrix_room = [0; MOST_READ];
+    let mut requests_room = [0; MOST_READ];
+    let tables = Tables::load(rt, (scheme, &mut scheme_room), (matrix, &mut matrix_room))?;
+    let requests = Input::load(rt, requests, &mut requests_room)?;
+    let mut results = [0; LONGEST];
+    let mut room = [0; LONGEST];
+    let (after, report) = tables.made_by(&mut room, |scheme, matrix, out, report| {
+        robot::slushferret_run(scheme, matrix, requests.bytes, &mut results, out, report)
     })?;
-    say_answers(rt, &requests.bytes, &results)?;
-    write_one(rt, out, &after)?;
+    say_answers(rt, requests.bytes, &results)?;
+    write_one(rt, out, after)?;
     if report.bad.is_some() {
         return Err(Failure::BadList);
     }

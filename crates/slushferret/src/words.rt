@@ -1,7 +1,6 @@
 // The words that the program was started with: a tool's name, then its files; an id may stand among them. Outputs are the last ones.
 use crate::errand::Errand;
 use crate::wrong_use::WrongUse;
-use std::alloc::AllocError;
 use std::env::{Env, FillError};
 
 // No file has a longer name.
@@ -10,27 +9,64 @@ const LONGEST_NAME: usize = 4096;
 // An output's name that is longer counts as none where it is compared with other words; it is refused in its turn.
 const LONGEST_COMPARED: usize = 8192;
 
-// A word, as far as there is room for it.
-fn word<'a>(rt: &HostRuntime, place: usize, room: &'a mut [u8]) -> Option<&'a [u8]> {
-    match rt.arg(place, room) {
-        Ok(length) => Some(&room[..length]),
-        Err(FillError::TooLong) => Some(room),
-        Err(FillError::NotPresent) => None,
+// What stands for a word that is longer than a name: of that only the length is looked at.
+static LONG: [u8; LONGEST_COMPARED + 1] = [0; LONGEST_COMPARED + 1];
+
+// A tool's name, the most files that one takes, and one word more, which shows that there are too many.
+pub(crate) const MOST: usize = 6;
+
+// Room for a word, and its length, of a long one only so much that it shows.
+#[derive(Clone, Copy)]
+pub(crate) struct Word {
+    room: [u8; LONGEST_NAME],
+    length: usize,
+}
+
+fn length_of_long(rt: &HostRuntime, place: usize) -> usize {
+    match rt.arg(place, &mut [0; LONGEST_COMPARED]) {
+        Ok(length) => length,
+        Err(_) => LONGEST_COMPARED + 1,
     }
 }
 
-// The words behind the program's own name, which may be any bytes (`std::env::args` refuses them all where one isn't text). Of a long one only so much is
-// kept that its length shows.
-pub(crate) fn words(rt: &HostRuntime) -> Result<Vec<Vec<u8>>, AllocError> {
-    let mut room = vec![in rt.alloc(); 0; LONGEST_COMPARED + 1]?;
-    let mut words = Vec::new(rt.alloc());
-    for place in 1..usize::MAX {
-        let Some(word) = word(rt, place, &mut room) else {
-            break;
+impl Word {
+    pub(crate) const NONE: Word = Word {
+        room: [0; LONGEST_NAME],
+        length: 0,
+    };
+
+    // Gives whether there is a word in this place.
+    fn read(&mut self, rt: &HostRuntime, place: usize) -> bool {
+        self.length = match rt.arg(place, &mut self.room) {
+            Ok(length) => length,
+            Err(FillError::TooLong) => length_of_long(rt, place),
+            Err(FillError::NotPresent) => return false,
         };
-        words.push(Vec::from_slice(rt.alloc(), word)?)?;
+        true
     }
-    Ok(words)
+
+    fn bytes(&self) -> &[u8] {
+        if self.length <= LONGEST_NAME {
+            &self.room[..self.length]
+        } else {
+            &LONG[..self.length.min(LONG.len())]
+        }
+    }
+}
+
+// The words behind the program's own name, which may be any bytes (`std::env::args` refuses them all where one isn't text), and how many there are.
+pub(crate) fn words<'a>(
+    rt: &HostRuntime,
+    rooms: &'a mut [Word; MOST],
+) -> ([&'a [u8]; MOST], usize) {
+    let mut count = 0;
+    for place in 0..MOST {
+        if !rooms[place].read(rt, place + 1) {
+            break;
+        }
+        count = place + 1;
+    }
+    (rooms.each_ref().map(|word| word.bytes()), count)
 }
 
 // A name without the `./` before it.
@@ -51,7 +87,7 @@ fn is_new_name(word: &[u8], output: &[u8]) -> bool {
 }
 
 // Whether a word can stand beside the outputs, the last of which is compared first.
-fn check_word<'a>(word: &'a [u8], outputs: &[Vec<u8>]) -> Result<(), WrongUse<'a>> {
+fn check_word<'a>(word: &'a [u8], outputs: &[&[u8]]) -> Result<(), WrongUse<'a>> {
     if LONGEST_NAME < word.len() {
         return Err(WrongUse::TooLong);
     }
@@ -62,7 +98,7 @@ fn check_word<'a>(word: &'a [u8], outputs: &[Vec<u8>]) -> Result<(), WrongUse<'a
 }
 
 // Whether the words can be used together.
-fn check_words<'a>(files: &'a [Vec<u8>], outputs: usize) -> Result<(), WrongUse<'a>> {
+fn check_words<'a>(files: &'a [&'a [u8]], outputs: usize) -> Result<(), WrongUse<'a>> {
     let outputs = &files[files.len().saturating_sub(outputs)..];
     for word in files {
         check_word(word, outputs)?;
@@ -74,7 +110,7 @@ fn check_words<'a>(files: &'a [Vec<u8>], outputs: usize) -> Result<(), WrongUse<
 }
 
 // What the words ask for.
-pub(crate) fn errand_of<'a>(words: &'a [Vec<u8>]) -> Result<Errand<'a>, WrongUse<'a>> {
+pub(crate) fn errand_of<'a>(words: &'a [&'a [u8]]) -> Result<Errand<'a>, WrongUse<'a>> {
     let Some((tool, files)) = words.split_first() else {
         return Err(WrongUse::NoTool);
     };
