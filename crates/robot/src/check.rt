@@ -1,7 +1,9 @@
 // Whether bytes read as a scheme, or as a matrix of one.
 ghost use Rattle.std.specs.Prelude.{◌≡◌, List, ℕ, Result, T, replicate};
 ghost use Rattle.model.specs.Accepted.{accepted_scheme};
+ghost use Rattle.model.specs.Arrays.{no_scheme};
 ghost use Rattle.model.specs.declared.Things.{Things};
+ghost use Rattle.scheme_bytes.specs.Answers.{with_lent};
 ghost use Rattle.robot.specs.Library.{gives, check_scheme, check_against, check_matrix};
 ghost use Rattle.robot.specs.Inner.Calls.{told, scheme_found, matrix_found};
 ghost use Rattle.robot.specs.declared.report.Failure.{Failure};
@@ -9,13 +11,13 @@ ghost use Rattle.robot.specs.declared.report.Failure.{Failure};
 use crate::report::{Called, Failure, Place, Success, tell};
 use model::{Head, Scheme, Things};
 
-// A scheme from bytes, with its length.
-pub(crate) fn scheme_of(scheme: &[u8]) -> Result<(Scheme, usize), Failure>
-    ensures { result ≡ scheme_found scheme.now }
+// A scheme from bytes into a table of none, and its length. It is lent, since a table that is handed on by value is copied each time.
+pub(crate) fn scheme_of(scheme: &[u8], s: &mut Scheme) -> Result<usize, Failure>
+    requires { s.old ≡ no_scheme }
+    ensures { with_lent s.new result ≡ scheme_found scheme.now }
 {
-    let mut s = scheme_bytes::no_scheme();
-    match scheme_bytes::read_scheme(scheme, &mut s) {
-        Ok(next) => Ok((s, next)),
+    match scheme_bytes::read_scheme(scheme, s) {
+        Ok(next) => Ok(next),
         Err(refused) => Err(Failure::at_record(refused, Place::Scheme)),
     }
 }
@@ -39,7 +41,8 @@ pub(crate) fn matrix_of(
 fn check_scheme_bytes(scheme: &[u8]) -> Called
     ensures { told result ≡ check_scheme scheme.now }
 {
-    let (_, next) = scheme_of(scheme)?;
+    let mut s = scheme_bytes::no_scheme();
+    let next = scheme_of(scheme, &mut s)?;
     Ok(Success::read(next))
 }
 
@@ -49,9 +52,9 @@ pub fn slushferret_check_scheme(scheme: &[u8], report: &mut [usize]) -> u8
     tell(report, check_scheme_bytes(scheme))
 }
 
-fn check_of(s: Scheme, matrix: &[u8]) -> Called
-    requires { T (accepted_scheme s) }
-    ensures { told result ≡ check_against matrix.now s }
+fn check_of(s: &Scheme, matrix: &[u8]) -> Called
+    requires { T (accepted_scheme s.now) }
+    ensures { told result ≡ check_against matrix.now s.now }
 {
     let mut cells = [0u64; Things::CELLS];
     let (_, next) = matrix_of(matrix, s.head, &mut cells)?;
@@ -61,8 +64,9 @@ fn check_of(s: Scheme, matrix: &[u8]) -> Called
 fn check_matrix_bytes(scheme: &[u8], matrix: &[u8]) -> Called
     ensures { told result ≡ check_matrix scheme.now matrix.now }
 {
-    let (s, _) = scheme_of(scheme)?;
-    check_of(s, matrix)
+    let mut s = scheme_bytes::no_scheme();
+    scheme_of(scheme, &mut s)?;
+    check_of(&s, matrix)
 }
 
 pub fn slushferret_check_matrix(scheme: &[u8], matrix: &[u8], report: &mut [usize]) -> u8

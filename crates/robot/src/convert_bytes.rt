@@ -11,7 +11,8 @@ use model::{Scheme, Things};
 fn convert_scheme(scheme: &[u8], out: &mut [u8]) -> Called
     ensures { ◌≡◌ {A = Filled} (told result, out.new) (filled (convert_scheme_bytes scheme.now out.old)) }
 {
-    let (s, _) = scheme_of(scheme)?;
+    let mut s = scheme_bytes::no_scheme();
+    scheme_of(scheme, &mut s)?;
     written(convert::convert_scheme(out, s), Place::Scheme)
 }
 
@@ -21,14 +22,14 @@ pub fn slushferret_convert_scheme(scheme: &[u8], out: &mut [u8], report: &mut [u
     tell(report, convert_scheme(scheme, out))
 }
 
-fn convert_of(s: Scheme, matrix: &[u8], out: &mut [u8]) -> Called
-    requires { T (accepted_scheme s) }
-    ensures { ◌≡◌ {A = Filled} (told result, out.new) (filled (convert_against matrix.now out.old s)) }
+fn convert_of(s: &Scheme, matrix: &[u8], out: &mut [u8]) -> Called
+    requires { T (accepted_scheme s.now) }
+    ensures { ◌≡◌ {A = Filled} (told result, out.new) (filled (convert_against matrix.now out.old s.now)) }
 {
     let mut cells = [0u64; Things::CELLS];
     let (things, _) = matrix_of(matrix, s.head, &mut cells)?;
     written(
-        convert::convert_matrix(out, s, things, &cells),
+        convert::convert_matrix(out, *s, things, &cells),
         Place::Scheme,
     )
 }
@@ -36,8 +37,9 @@ fn convert_of(s: Scheme, matrix: &[u8], out: &mut [u8]) -> Called
 fn convert_matrix(scheme: &[u8], matrix: &[u8], out: &mut [u8]) -> Called
     ensures { ◌≡◌ {A = Filled} (told result, out.new) (filled (convert_matrix_bytes scheme.now matrix.now out.old)) }
 {
-    let (s, _) = scheme_of(scheme)?;
-    convert_of(s, matrix, out)
+    let mut s = scheme_bytes::no_scheme();
+    scheme_of(scheme, &mut s)?;
+    convert_of(&s, matrix, out)
 }
 
 pub fn slushferret_convert_matrix(

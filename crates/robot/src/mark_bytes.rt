@@ -8,9 +8,9 @@ use crate::check::{matrix_of, scheme_of};
 use crate::report::{Called, Failure, Place, tell, written};
 use model::{Scheme, Things};
 
-fn mark_of(s: Scheme, matrix: &[u8], id: u16, mark: bool, out: &mut [u8]) -> Called
-    requires { T (accepted_scheme s) }
-    ensures { ◌≡◌ {A = Filled} (told result, out.new) (filled (mark_against mark matrix.now id out.old s)) }
+fn mark_of(s: &Scheme, matrix: &[u8], id: u16, mark: bool, out: &mut [u8]) -> Called
+    requires { T (accepted_scheme s.now) }
+    ensures { ◌≡◌ {A = Filled} (told result, out.new) (filled (mark_against mark matrix.now id out.old s.now)) }
 {
     let mut cells = [0u64; Things::CELLS];
     let (mut things, _) = matrix_of(matrix, s.head, &mut cells)?;
@@ -18,7 +18,7 @@ fn mark_of(s: Scheme, matrix: &[u8], id: u16, mark: bool, out: &mut [u8]) -> Cal
         return Err(Failure::at_start(fault, Place::Matrix));
     }
     written(
-        matrix_write::write_matrix(out, s, things, &cells),
+        matrix_write::write_matrix(out, *s, things, &cells),
         Place::Matrix,
     )
 }
@@ -26,8 +26,9 @@ fn mark_of(s: Scheme, matrix: &[u8], id: u16, mark: bool, out: &mut [u8]) -> Cal
 fn mark_bytes(scheme: &[u8], matrix: &[u8], id: u16, mark: bool, out: &mut [u8]) -> Called
     ensures { ◌≡◌ {A = Filled} (told result, out.new) (filled (mark_bytes mark scheme.now matrix.now id out.old)) }
 {
-    let (s, _) = scheme_of(scheme)?;
-    mark_of(s, matrix, id, mark, out)
+    let mut s = scheme_bytes::no_scheme();
+    scheme_of(scheme, &mut s)?;
+    mark_of(&s, matrix, id, mark, out)
 }
 
 pub fn slushferret_hold(

@@ -9,7 +9,8 @@ use crate::report::{Called, moved, tell};
 fn forward(scheme: &[u8], old: &[u8], out: &mut [u8]) -> Called
     ensures { ◌≡◌ {A = Filled} (told result, out.new) (filled (forward_bytes scheme.now old.now out.old)) }
 {
-    let (s, _) = scheme_of(scheme)?;
+    let mut s = scheme_bytes::no_scheme();
+    scheme_of(scheme, &mut s)?;
     moved(moving::forward(old, s, out))
 }
 
@@ -22,7 +23,8 @@ pub fn slushferret_forward(scheme: &[u8], old: &[u8], out: &mut [u8], report: &m
 fn back(scheme: &[u8], matrix: &[u8], out: &mut [u8]) -> Called
     ensures { ◌≡◌ {A = Filled} (told result, out.new) (filled (back_bytes scheme.now matrix.now out.old)) }
 {
-    let (s, _) = scheme_of(scheme)?;
+    let mut s = scheme_bytes::no_scheme();
+    scheme_of(scheme, &mut s)?;
     moved(moving::back(matrix, s, out))
 }
 

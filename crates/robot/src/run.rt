@@ -34,13 +34,13 @@ fn count_of(answer: Result<Ended, Fault>) -> usize
 }
 
 // A run on a copy of the things and the cells tells what it will give, before anything is stored.
-fn trial_of(s: Scheme, th: Things, cells: [u64; Things::CELLS], requests: &[u8]) -> Needed
-    requires { T (accepted_scheme s) × T (accepted_matrix s.head (matrix_of th cells)) }
-    ensures { result ≡ needed_by s (matrix_of th cells) (read_list requests.now) }
+fn trial_of(s: &Scheme, th: Things, cells: [u64; Things::CELLS], requests: &[u8]) -> Needed
+    requires { T (accepted_scheme s.now) × T (accepted_matrix s.now.head (matrix_of th cells)) }
+    ensures { result ≡ needed_by s.now (matrix_of th cells) (read_list requests.now) }
 {
     let mut things = th;
     let mut trial = cells;
-    let answers = count_of(engine::run_quietly(s, &mut things, &mut trial, requests));
+    let answers = count_of(engine::run_quietly(*s, &mut things, &mut trial, requests));
     let mut scratch = [0u8; LARGEST];
     let bytes = matrix_write::write_matrix_by_head(&mut scratch, s.head, things, &trial).unwrap_or(
         0,
@@ -50,17 +50,17 @@ fn trial_of(s: Scheme, th: Things, cells: [u64; Things::CELLS], requests: &[u8])
 
 // The answers, then the matrix afterwards, which there is room for.
 fn run_on(
-    s: Scheme,
+    s: &Scheme,
     th: &mut Things,
     cells: &mut [u64],
     requests: &[u8],
     answers: &mut [u8],
     out: &mut [u8],
 ) -> Called
-    requires { T (accepted_scheme s) × T (accepted_matrix s.head (matrix_of th.old cells.old)) × (length (bytes_after s (matrix_of th.old cells.old) (read_list requests.now)) ≤ length out.old) }
-    ensures { ◌≡◌ {A = Answered} (told result, answers.new, out.new) (answered (run_matrix s (matrix_of th.old cells.old) (read_list requests.now) answers.old out.old)) }
+    requires { T (accepted_scheme s.now) × T (accepted_matrix s.now.head (matrix_of th.old cells.old)) × (length (bytes_after s.now (matrix_of th.old cells.old) (read_list requests.now)) ≤ length out.old) }
+    ensures { ◌≡◌ {A = Answered} (told result, answers.new, out.new) (answered (run_matrix s.now (matrix_of th.old cells.old) (read_list requests.now) answers.old out.old)) }
 {
-    match engine::run_list(s, th, cells, requests, answers) {
+    match engine::run_list(*s, th, cells, requests, answers) {
         Ok(ended) => Ok(Success {
             at: 0,
             count: ended.count,
@@ -72,9 +72,9 @@ fn run_on(
 }
 
 // A run of a matrix in bytes. Only where the output might be too short is the run tried first.
-fn run_of(s: Scheme, matrix: &[u8], requests: &[u8], answers: &mut [u8], out: &mut [u8]) -> Called
-    requires { T (accepted_scheme s) }
-    ensures { ◌≡◌ {A = Answered} (told result, answers.new, out.new) (answered (run_against matrix.now requests.now answers.old out.old s)) }
+fn run_of(s: &Scheme, matrix: &[u8], requests: &[u8], answers: &mut [u8], out: &mut [u8]) -> Called
+    requires { T (accepted_scheme s.now) }
+    ensures { ◌≡◌ {A = Answered} (told result, answers.new, out.new) (answered (run_against matrix.now requests.now answers.old out.old s.now)) }
 {
     let mut cells = [0u64; Things::CELLS];
     let (mut things, _) = matrix_of(matrix, s.head, &mut cells)?;
@@ -93,8 +93,9 @@ fn run_of(s: Scheme, matrix: &[u8], requests: &[u8], answers: &mut [u8], out: &m
 fn run(scheme: &[u8], matrix: &[u8], requests: &[u8], answers: &mut [u8], out: &mut [u8]) -> Called
     ensures { ◌≡◌ {A = Answered} (told result, answers.new, out.new) (answered (run_bytes scheme.now matrix.now requests.now answers.old out.old)) }
 {
-    let (s, _) = scheme_of(scheme)?;
-    run_of(s, matrix, requests, answers, out)
+    let mut s = scheme_bytes::no_scheme();
+    scheme_of(scheme, &mut s)?;
+    run_of(&s, matrix, requests, answers, out)
 }
 
 pub fn slushferret_run(

@@ -13,7 +13,7 @@ use Rattle.faults.specs.declared.Fault.TheVariants.{Leftover}
 use Rattle.rights.specs.Sets.{within}
 use Rattle.laws.proofs.Bools.{is_true}
 use Rattle.laws.proofs.Differ.{constructors_differ}
-use Rattle.model.specs.Arrays.{no_command, scheme_of}
+use Rattle.model.specs.Arrays.{no_command, scheme_of, no_scheme}
 use Rattle.model.specs.Accepted.{accepted_head}
 use Rattle.model.specs.declared.Command.{Command}
 use Rattle.model.specs.declared.Head.{Head}
@@ -83,6 +83,11 @@ module _ (s : List ℕ) (next : ℕ) (h : Head) (ok : T (accepted_head h)) where
   command_refused v l e =
       let g = refusal_back (command_at s h next) (sym is_item ∙ left_back (read_command s next h) e) in
       rw (looped_stop v l g.1) (ap Err g.2)
+
+-- ---- a table of none holds no command at each place
+pub none_in_places : {table : Scheme} → table ≡ no_scheme → table.commands ≡ replicate 32 no_command
+unfolding no_scheme scheme_of
+none_in_places e = ap (λ (t : Scheme). t.commands) e
 
 -- ---- the lines: the commands behind a head, and the end
 module _ (s : List ℕ) (h : Head) where

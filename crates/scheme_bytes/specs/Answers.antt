@@ -1,6 +1,6 @@
 -- The answer of `read_scheme`, from what `Read` gives; and what the function gives for it.
 -- Assumes nothing.
-use Rattle.std.specs.Prelude.{ℕ, List, Result}
+use Rattle.std.specs.Prelude.{ℕ, List, Result, Ok, Err}
 use Rattle.model.specs.declared.Scheme.{Scheme}
 use Rattle.records.specs.Reading.{Read, got, fault}
 use Rattle.records.specs.Front.{Refusal}
@@ -25,3 +25,9 @@ read_scheme bytes table = as_scheme table (scheme bytes 0)
 -- the function's result, with what the lent table then holds
 abbrev pub scheme_result : SchemeAnswer → Result ℕ refused.Refused × Scheme
 scheme_result a = (reading_result a.answer, a.scheme)
+
+-- a position with what was read into the lent place; where it is refused, nobody looks at that
+module _ {A E : Type 0} (lent : A) where
+  abbrev pub with_lent : Result ℕ E → Result (A × ℕ) E
+  with_lent (Ok next) = Ok (lent, next)
+  with_lent (Err r) = Err r

@@ -1,13 +1,15 @@
 // A scheme is a head and its commands, then the end: the thin reader that holds the slice.
 ghost use Rattle.std.specs.Prelude.{◌≡◌, T, ℕ, Result};
 ghost use Rattle.model.specs.Accepted.{accepted_head};
+ghost use Rattle.model.specs.Arrays.{no_scheme};
 ghost use Rattle.model.specs.declared.Scheme.{Scheme};
 ghost use Rattle.records.specs.Results.{item_of};
 ghost use Rattle.records.specs.declared.Refused.{Refused};
 ghost use Rattle.command_bytes.specs.Answers.{read_head};
 ghost use Rattle.scheme_bytes.specs.Read.{scheme_rest};
-ghost use Rattle.scheme_bytes.specs.Answers.{read_scheme, scheme_result};
+ghost use Rattle.scheme_bytes.specs.Answers.{read_scheme, scheme_result, with_lent};
 
+use crate::none::no_scheme;
 use crate::read::read_rest;
 use command_bytes::read_head;
 use model::{Head, Scheme};
@@ -26,12 +28,12 @@ impl<'a> SchemeReader<'a> {
         read_head(self.input, 0)
     }
 
-    // The scheme of this head, from the commands behind it up to the end.
-    fn rest(self, from: usize, head: Head) -> Result<(Scheme, usize), Refused>
-        requires { T (accepted_head head) }
-        ensures { result ≡ item_of (scheme_rest self.entry.input.now head from) }
+    // The scheme of this head into a table of none, from the commands behind it up to the end.
+    fn rest(self, from: usize, head: Head, table: &mut Scheme) -> Result<usize, Refused>
+        requires { T (accepted_head head) × (table.old ≡ no_scheme) }
+        ensures { with_lent table.new result ≡ item_of (scheme_rest self.entry.input.now head from) }
     {
-        read_rest(self.input, from, head)
+        read_rest(self.input, from, head, table)
     }
 }
 
@@ -42,7 +44,8 @@ pub fn read_scheme(s: &[u8], table: &mut Scheme) -> Result<usize, Refused>
 {
     let reader = SchemeReader { input: s };
     let (head, from) = reader.head()?;
-    let (scheme, next) = reader.rest(from, head)?;
-    *table = scheme;
+    let mut read = no_scheme();
+    let next = reader.rest(from, head, &mut read)?;
+    *table = read;
     Ok(next)
 }

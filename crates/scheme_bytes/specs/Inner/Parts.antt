@@ -1,4 +1,4 @@
--- The commands as the private functions read them.
+-- The commands as the private functions read them; and what they read into what is lent.
 -- Assumes nothing.
 use Rattle.std.specs.Prelude.{ℕ, ◌-◌, List, ◌++◌, length, replicate}
 use Rattle.model.specs.Arrays.{no_command}

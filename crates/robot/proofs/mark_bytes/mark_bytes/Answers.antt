@@ -7,15 +7,15 @@ use Rattle.robot.specs.Inner.Calls.{filled}
 use Rattle.robot.proofs.CallLaws.{found_accepted, scheme_read, scheme_refused}
 use Rattle.robot.proofs.mark_bytes.mark_bytes.Goals as goal
 
-pub returns-in_err-s : goal.returns-in_err-s
+pub returns-in_err-scheme_of : goal.returns-in_err-scheme_of
 unfolding mark_bytes
-returns-in_err-s c =
+returns-in_err-scheme_of c =
     let p = err_from_is_err_and c.from_residual.result c.from_residual.ensures.1 in
-    rw (p.1, p.2) (ap filled (scheme_refused (not_written _) (λ s n. mark_against _ _ _ _ s) _ c.in_err-s.ensures))
+    rw (p.1, p.2) (ap filled (scheme_refused (not_written _) (λ s n. mark_against _ _ _ _ s) _ c.in_err-scheme_of.ensures))
 
 pub mark_of-requires : goal.mark_of-requires
-mark_of-requires c = found_accepted _ (λ i. (c.shared_slice_known-1.given i).fits) c.in_ok-s.ensures
+mark_of-requires c = found_accepted _ (λ i. (c.shared_slice_known-1.given i).fits) c.in_ok-scheme_of.ensures
 
 pub returns : goal.returns
 unfolding mark_bytes
-returns c = c.mark_of.ensures ∙ ap filled (scheme_read (not_written _) (λ s n. mark_against _ _ _ _ s) _ c.in_ok-s.ensures)
+returns c = c.mark_of.ensures ∙ ap filled (scheme_read (not_written _) (λ s n. mark_against _ _ _ _ s) _ c.in_ok-scheme_of.ensures)
