@@ -34,11 +34,7 @@ fn totals_of<'a>(s: Scheme, matrix: Input<'a, '_>) -> Result<Totals, Refusal<'a>
     totals::totals(s, th, &cells).map_err(|fault| matrix.refused(fault, 0))
 }
 
-fn check_matrix<'a>(
-    rt: &HostRuntime,
-    s: Scheme,
-    matrix: Input<'a, '_>,
-) -> Result<(), Failure<'a>> {
+fn check_matrix<'a>(rt: &HostRuntime, s: Scheme, matrix: Input<'a, '_>) -> Result<(), Failure<'a>> {
     let Totals {
         things,
         cells,
