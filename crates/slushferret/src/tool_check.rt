@@ -34,11 +34,7 @@ fn totals_of<'a>(s: Scheme, matrix: Input<'a, '_>) -> Result<Totals, Refusal<'a>
     totals::totals(s, th, &cells).map_err(|fault| matrix.refused(fault, 0))
 }
 
-fn check_matrix<'a>(
-    rt: &HostRuntime,
-    s: Scheme,
-    matrix: Input<'a, '_>,
-) -> Result<(), Failure<'a>> {
+fn check_matrix<'a>(rt: &HostRuntime, s: Scheme, matrix: Input<'a, '_>) -> Result<(), Failure<'a>> {
     let Totals {
         things,
         cells,
@@ -53,6 +49,8 @@ fn check_matrix<'a>(
 }
 
 // Both files are loaded first.
+// Never inlined: no other tool takes the stack of these rooms.
+#[inline(never)]
 pub(crate) fn check<'a>(
     rt: &HostRuntime,
     scheme: &'a [u8],
