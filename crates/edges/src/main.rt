@@ -50,27 +50,29 @@ fn run(line: &mut Line, case: Case, lent: &mut Lent) {
 
 // What the cases share: a scheme and a matrix, with more cells than one has, and a buffer. The bytes of it that a case is lent hold the pattern.
 #[derive(Drop)]
-struct Shared<'a> {
+struct Shared {
     scheme: Scheme,
     things: Things,
-    cells: &'a mut [u64],
-    space: &'a mut [u8],
+    cells: [u64; 2400],
+    space: [u8; 65600],
 }
 
-impl Shared<'_> {
+impl Shared {
     // Then puts the sum of the matrix afterwards.
     fn carry_out(&mut self, line: &mut Line, case: Case) {
         let room = case.room.min(self.space.len());
         let count = case.cells.min(self.cells.len());
+        let cells = &mut self.cells[..];
+        let space = &mut self.space[..];
         let mut lent = Lent {
             scheme: &mut self.scheme,
             things: &mut self.things,
-            cells: &mut self.cells[..count],
-            out: &mut self.space[..room],
+            cells: &mut cells[..count],
+            out: &mut space[..room],
         };
         pattern::bytes(lent.out);
         run(line, case, &mut lent);
-        line.tell(sum::matrix(&self.things, self.cells));
+        line.tell(sum::matrix(&self.things, &self.cells));
     }
 }
 
@@ -79,7 +81,7 @@ fn run_all(
     input: &mut Stdin,
     output: &Stdout,
     buffer: &mut [u8],
-    shared: &mut Shared<'_>,
+    shared: &mut Shared,
 ) -> Result<()> {
     let mut line = Line::empty();
     for _ in 0..65536 {
@@ -95,13 +97,11 @@ fn run_all(
 
 fn main(rt: HostRuntime) -> Result<()> {
     let mut buffer = [0; Case::LONGEST];
-    let mut cells = [0; 2400];
-    let mut space = [0; 65600];
     let mut shared = Shared {
         scheme: scheme_bytes::no_scheme(),
         things: things::no_things(),
-        cells: &mut cells,
-        space: &mut space,
+        cells: [0; 2400],
+        space: [0; 65600],
     };
     run_all(&mut rt.stdin(), &rt.stdout(), &mut buffer, &mut shared)
 }

@@ -49,6 +49,8 @@ fn check_matrix<'a>(rt: &HostRuntime, s: Scheme, matrix: Input<'a, '_>) -> Resul
 }
 
 // Both files are loaded first.
+// Never inlined: no other tool takes the stack of these rooms.
+#[inline(never)]
 pub(crate) fn check<'a>(
     rt: &HostRuntime,
     scheme: &'a [u8],

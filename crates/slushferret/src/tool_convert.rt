@@ -4,6 +4,8 @@ use crate::output::write_two;
 use crate::tables::Tables;
 use files::{LONGEST, MOST_READ};
 
+// Never inlined: no other tool takes the stack of these rooms.
+#[inline(never)]
 pub(crate) fn convert<'a>(
     rt: &HostRuntime,
     scheme: &'a [u8],

@@ -19,6 +19,8 @@ fn id_of(word: &[u8]) -> Result<u16, WrongUse<'_>> {
 }
 
 // By a function of the robots' library, which gets the id between the files and the room for its output.
+// Never inlined: no other tool takes the stack of these rooms.
+#[inline(never)]
 fn mark<'a, F: FnOnce(&[u8], &[u8], u16, &mut [u8], &mut [usize]) -> u8>(
     rt: &HostRuntime,
     words: Marked<'a>,

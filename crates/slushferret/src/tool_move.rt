@@ -13,6 +13,8 @@ pub(crate) struct Moved<'a> {
 }
 
 // By a function of the robots' library.
+// Never inlined: no other tool takes the stack of these rooms.
+#[inline(never)]
 fn move_image<'a, F: FnOnce(&[u8], &[u8], &mut [u8], &mut [usize]) -> u8>(
     rt: &HostRuntime,
     words: Moved<'a>,

@@ -2,6 +2,7 @@
 use crate::failure::Failure;
 use crate::input::Input;
 use crate::output::write_one;
+use crate::report::Report;
 use crate::said::say_lines;
 use crate::tables::Tables;
 use files::{LONGEST, MOST_READ, Told};
@@ -16,6 +17,26 @@ fn say_answers(rt: &HostRuntime, requests: &[u8], results: &[u8]) -> Result<(), 
     say_lines(rt, &text[..n.min(ROOM)])
 }
 
+// The files are read and the list carried out. Gives the list and the matrix afterwards: the other files are gone before there is a text.
+fn carried_out<'a, 'b>(
+    rt: &HostRuntime,
+    (scheme, matrix): (&'a [u8], &'a [u8]),
+    (requests, requests_room): (&'a [u8], &'b mut [u8]),
+    results: &mut [u8],
+    room: &'b mut [u8],
+) -> Result<(&'b [u8], &'b [u8], Report), Failure<'a>> {
+    let mut scheme_room = [0; MOST_READ];
+    let mut matrix_room = [0; MOST_READ];
+    let tables = Tables::load(rt, (scheme, &mut scheme_room), (matrix, &mut matrix_room))?;
+    let requests = Input::load(rt, requests, requests_room)?;
+    let (after, report) = tables.made_by(room, |scheme, matrix, out, report| {
+        robot::slushferret_run(scheme, matrix, requests.bytes, results, out, report)
+    })?;
+    Ok((requests.bytes, after, report))
+}
+
+// Never inlined: no other tool takes the stack of these rooms.
+#[inline(never)]
 pub(crate) fn run<'a>(
     rt: &HostRuntime,
     scheme: &'a [u8],
@@ -23,17 +44,17 @@ pub(crate) fn run<'a>(
     requests: &'a [u8],
     out: &'a [u8],
 ) -> Result<(), Failure<'a>> {
-    let mut scheme_room = [0; MOST_READ];
-    let mut matrix_room = [0; MOST_READ];
     let mut requests_room = [0; MOST_READ];
-    let tables = Tables::load(rt, (scheme, &mut scheme_room), (matrix, &mut matrix_room))?;
-    let requests = Input::load(rt, requests, &mut requests_room)?;
     let mut results = [0; LONGEST];
     let mut room = [0; LONGEST];
-    let (after, report) = tables.made_by(&mut room, |scheme, matrix, out, report| {
-        robot::slushferret_run(scheme, matrix, requests.bytes, &mut results, out, report)
-    })?;
-    say_answers(rt, requests.bytes, &results)?;
+    let (requests, after, report) = carried_out(
+        rt,
+        (scheme, matrix),
+        (requests, &mut requests_room),
+        &mut results,
+        &mut room,
+    )?;
+    say_answers(rt, requests, &results)?;
     write_one(rt, out, after)?;
     if report.bad.is_some() {
         return Err(Failure::BadList);

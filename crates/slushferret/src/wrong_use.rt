@@ -25,13 +25,12 @@ const TOOLS: [&str; 8] = [
 ];
 
 impl<'a> WrongUse<'a> {
-    // The word, and what is told behind it.
+    // The word, where it is told, and what is told behind it.
     fn reason(self) -> Option<(&'a [u8], &'static str)> {
         Some(match self {
-            WrongUse::NoTool => return None,
+            WrongUse::NoTool | WrongUse::TooLong => return None,
             WrongUse::NoSuchTool(word) => (word, "there is no such tool"),
             WrongUse::OtherCount(word) => (word, "takes another number of files"),
-            WrongUse::TooLong => (b"a word of more than 4096 bytes", "File name too long"),
             WrongUse::WrittenFirst(word) => (
                 word,
                 "another output is written under this name first",
@@ -45,6 +44,9 @@ impl<'a> WrongUse<'a> {
     pub(crate) fn tell(self, rt: &HostRuntime) {
         if let Some((word, reason)) = self.reason() {
             tell(rt, word, reason);
+        }
+        if matches!(self, WrongUse::TooLong) {
+            let _ = eprintln!(rt; "a word of more than 4096 bytes: File name too long");
         }
         for line in TOOLS {
             let _ = eprintln!(rt; "{line}");
