@@ -30,7 +30,7 @@ use model::{Scheme, Things};
 use print::Line;
 use std::io::{Result, Stdin, Stdout};
 
-// A task is told by its number alone, here and in the files of the tasks: the numbers are the input's format, and an enum would name each of the 62 twice
+// A task is told by its number alone, here and in the files of the tasks: the numbers are the input's format, and an enum would name each of the 61 twice
 // more, where it is read and where it is done.
 fn run(line: &mut Line, case: Case, lent: &mut Lent) {
     match case.task / 10 {

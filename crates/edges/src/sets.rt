@@ -1,4 +1,4 @@
-// The tasks 80 to 84, on a set or a number alone: all that the sets of rights, of types and of kinds and the three numberings are asked.
+// The tasks 80 to 83, on a set or a number alone: all that the sets of rights, of types and of kinds and the three numberings are asked.
 use crate::case::Bytes;
 use crate::print::Line;
 use records::Kinds;
@@ -24,18 +24,22 @@ fn types_of(line: &mut Line, b: Bytes) {
     line.tell(set.within(b.one_at(2)));
 }
 
-fn two<T: Numbered>(line: &mut Line, x: T, y: T) {
-    line.tell((x.below(y.byte()), x.is(y)));
+fn two<T: Numbered>(line: &mut Line, x: T, y: T, is_one: bool) {
+    line.tell((x.below(y.byte()), is_one));
     line.tell((x.is_zero(), x.byte()));
 }
 
-// Two numbers, in each of the three numberings. Whether two rights are one is a task of its own, so that the lines of this one stay as they were.
+// Two numbers, in each of the three numberings. Whether two rights are one has no place of its own in the line: it is told with the types' answer, where
+// both must be yes, and with the parameters', where one must.
 fn numbers(line: &mut Line, x: u8, y: u8) {
     let right = Right(x);
     line.tell(right.below(y));
     line.tell((right.is_zero(), right.byte()));
-    two(line, ThingType(x), ThingType(y));
-    two(line, Parameter(x), Parameter(y));
+    let same = right.is(Right(y));
+    let (one, other) = (ThingType(x), ThingType(y));
+    two(line, one, other, one.is(other) & same);
+    let (one, other) = (Parameter(x), Parameter(y));
+    two(line, one, other, one.is(other) | same);
 }
 
 pub(crate) fn task(line: &mut Line, task: u8, b: Bytes) {
@@ -43,7 +47,6 @@ pub(crate) fn task(line: &mut Line, task: u8, b: Bytes) {
         80 => rights_of(line, b),
         81 => types_of(line, b),
         82 => line.tell(Kinds(b.two_at(0)).has(b.two_at(2))),
-        84 => line.tell(Right(b.one_at(0)).is(Right(b.one_at(1)))),
         _ => numbers(line, b.one_at(0), b.one_at(1)),
     }
 }

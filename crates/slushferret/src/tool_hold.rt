@@ -24,11 +24,11 @@ fn id_of(word: &[u8]) -> Result<u16, WrongUse<'_>> {
 fn mark<'a, F: FnOnce(&[u8], &[u8], u16, &mut [u8], &mut [usize]) -> u8>(
     rt: &HostRuntime,
     words: Marked<'a>,
+    id: u16,
     call: F,
 ) -> Result<(), Failure<'a>>
     requires { F.IsAlwaysCallable call }
 {
-    let id = id_of(words.id)?;
     let mut scheme_room = [0; MOST_READ];
     let mut matrix_room = [0; MOST_READ];
     let tables = Tables::load(
@@ -44,13 +44,15 @@ fn mark<'a, F: FnOnce(&[u8], &[u8], u16, &mut [u8], &mut [usize]) -> u8>(
 }
 
 pub(crate) fn hold<'a>(rt: &HostRuntime, words: Marked<'a>) -> Result<(), Failure<'a>> {
-    mark(rt, words, |scheme, matrix, id, after, report| {
+    let id = id_of(words.id)?;
+    mark(rt, words, id, |scheme, matrix, id, after, report| {
         robot::slushferret_hold(scheme, matrix, id, after, report)
     })
 }
 
 pub(crate) fn release<'a>(rt: &HostRuntime, words: Marked<'a>) -> Result<(), Failure<'a>> {
-    mark(rt, words, |scheme, matrix, id, after, report| {
+    let id = id_of(words.id)?;
+    mark(rt, words, id, |scheme, matrix, id, after, report| {
         robot::slushferret_release(scheme, matrix, id, after, report)
     })
 }

@@ -60,7 +60,6 @@ fn say_of_numbers(task: &Task) -> Said {
             Said::default().flag("records::Kinds::has", at_position::has_kind(*set, *kind))
         }
         Task::Numbers(one, other) => numbers(*one, *other),
-        Task::SameRight(one, other) => Said::default().flag("rights::Right::is", one == other),
         Task::IdIn(word) => say_id(id_in(word)),
         _ => unreachable!("it stores something"),
     }
@@ -143,12 +142,13 @@ fn rights(set: u64, right: u8, n: u8) -> Said {
         .value("rights::RightSet::count", set.count_ones())
 }
 
-/// As a right, as a type, as a parameter. Whether two rights are one is a task of its own.
+/// As a right, as a type, as a parameter. Whether two rights are one is told with the others' answers.
 fn numbers(one: u8, other: u8) -> Said {
     Said::default()
         .flag("rights::Right::below", one < other)
         .flag("rights::Right::is_zero", one == 0)
         .value("rights::Right::byte", one)
+        .through("rights::Right::is", u8::from(one == other))
         .flag("rights::ThingType::below", one < other)
         .flag("rights::ThingType::is", one == other)
         .flag("rights::ThingType::is_zero", one == 0)

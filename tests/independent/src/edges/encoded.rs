@@ -82,7 +82,6 @@ impl Task {
             Task::Types { set, kind } => (81, behind(&set.to_le_bytes(), &[*kind])),
             Task::Kinds { set, kind } => (82, behind(&set.to_le_bytes(), &kind.to_le_bytes())),
             Task::Numbers(one, other) => (83, vec![*one, *other]),
-            Task::SameRight(one, other) => (84, vec![*one, *other]),
             _ => unreachable!("it has fields of its own"),
         }
     }

@@ -5,9 +5,6 @@ use super::{case, Case, Task};
 /// Around the limits of parameters, types and rights.
 const NUMBERS: [u8; 9] = [0, 1, 7, 8, 15, 16, 63, 64, 255];
 
-/// The least, the limit of rights and the largest, each with those below and above it.
-const RIGHTS: [u8; 8] = [0, 1, 62, 63, 64, 65, 254, 255];
-
 pub fn cases() -> Vec<Case> {
     let mut cases = Vec::new();
     for (name, set) in [
@@ -38,18 +35,6 @@ pub fn cases() -> Vec<Case> {
         for other in NUMBERS {
             let label = format!("number-{one}-and-{other}");
             cases.push(case(label, Task::Numbers(one, other)));
-        }
-    }
-    cases.extend(same_rights());
-    cases
-}
-
-fn same_rights() -> Vec<Case> {
-    let mut cases = Vec::new();
-    for one in RIGHTS {
-        for other in RIGHTS {
-            let label = format!("right-{one}-and-{other}");
-            cases.push(case(label, Task::SameRight(one, other)));
         }
     }
     cases

@@ -113,10 +113,8 @@ pub enum Task {
         set: u16,
         kind: u16,
     },
-    /// What is asked of a number and another, as a right, a type and a parameter.
+    /// All that is asked of a number and another, as a right, a type and a parameter.
     Numbers(u8, u8),
-    /// Whether two rights are one, which `Numbers` doesn't ask.
-    SameRight(u8, u8),
 }
 
 /// How many parameters, tests and operations a command has, and an operation (code, right, row, column) at one of its 32 places; none at a place
