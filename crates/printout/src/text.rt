@@ -10,9 +10,9 @@ use model::Reply;
 use records::Refused;
 use totals::Totals;
 
-// How far a request's line goes: `play` prints up to the test's place, `run` the steps too.
-#[derive(Clone, Copy, Debug, PartialEq, Eq)]
-pub(crate) enum Columns {
+// How far a request's line goes: `play` prints up to the test's place, `run` the steps too. It is `pub` so that a law of another crate can name it.
+#[derive(Clone, Copy, Debug)]
+pub enum Columns {
     ToTest,
     ToSteps,
 }

@@ -8,9 +8,9 @@ ghost use Rattle.robot.specs.Inner.Calls.{listed, place_number, told, stored_tol
 use faults::Fault;
 use records::Refused;
 
-// Where a fault lies.
-#[derive(Clone, Copy, Debug, PartialEq, Eq)]
-pub(crate) enum Place {
+// Where a fault lies. It, `Failure` and `Success` are `pub` so that a law of another crate can name them.
+#[derive(Clone, Copy, Debug)]
+pub enum Place {
     Scheme,
     Matrix,
     List,
@@ -19,16 +19,16 @@ pub(crate) enum Place {
 }
 
 // Why a call was refused, and where.
-#[derive(Clone, Copy, Debug, PartialEq, Eq)]
-pub(crate) struct Failure {
+#[derive(Clone, Copy, Debug)]
+pub struct Failure {
     pub fault: Fault,
     pub place: Place,
     pub at: usize,
 }
 
 // What a call did: how far it read, how many answers it stored and how many bytes it wrote; and where a record of a list that can't be read has ended that.
-#[derive(Clone, Copy, Debug, PartialEq, Eq)]
-pub(crate) struct Success {
+#[derive(Clone, Copy, Debug)]
+pub struct Success {
     pub at: usize,
     pub count: usize,
     pub written: usize,

@@ -16,9 +16,9 @@ use model::{Reply, Scheme, Things};
 // Every matrix's bytes fit into so many.
 const LARGEST: usize = 37208;
 
-// How many answers and how many bytes a run will give.
-#[derive(Clone, Copy, Debug, PartialEq, Eq)]
-pub(crate) struct Needed {
+// How many answers and how many bytes a run will give. It is `pub` so that a law of another crate can name it.
+#[derive(Clone, Copy, Debug)]
+pub struct Needed {
     pub answers: usize,
     pub bytes: usize,
 }
